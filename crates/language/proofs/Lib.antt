@@ -1,0 +1,3 @@
+pub mod reading
+pub mod typing
+pub mod running

@@ -1,0 +1,122 @@
+-- Worked examples: document 01's texts, through `read`, which `only` shows to be the one answer.
+use mathlib.Core.Path.{_≡_, refl}
+use mathlib.Core.List.{[], _∷_}
+use lib.IntN.{pos, negsuc}
+use Rattle.language.specs.Syntax.{at, num, name, app, one-expr, more-exprs, last, def-then, const, echo, set, block}
+use Rattle.language.specs.Bytes.{bytesOf}
+use Rattle.language.specs.Answers.{BYTE, NUMBER, SYNTAX, fine, refuse}
+use Rattle.language.specs.Words.{kLbr, kRbr, kArrow, kECHO, mark, number, named, wordsFrom, wordsOf}
+use Rattle.language.specs.Table.{shapeExpr, shapeCmds, size, first, enc, table}
+use Rattle.language.proofs.reading.Machine.{set-sib, link, add-leaf, add-fork, retype, parse}
+use Rattle.language.proofs.reading.Descent.{level}
+use Rattle.language.proofs.reading.Reader.{past, deep, read}
+use Rattle.language.specs.Syntax
+use Rattle.language.specs.Words
+use Rattle.language.proofs.reading.Machine
+
+w1 : wordsOf (bytesOf "[ECHO 1]") ≡ fine (mark kLbr 0 ∷ mark kECHO 1 ∷ number 6 (pos 1) ∷ mark kRbr 7 ∷ [])
+unfolding wordsFrom
+w1 = refl
+
+w2 : wordsOf (bytesOf "12ab") ≡ fine (number 0 (pos 12) ∷ named (at 2 (bytesOf "ab")) ∷ [])
+unfolding wordsFrom
+w2 = refl
+
+w3 : wordsOf (bytesOf "1-2") ≡ fine (number 0 (pos 1) ∷ number 1 (negsuc 1) ∷ [])
+unfolding wordsFrom
+w3 = refl
+
+w4 : wordsOf (bytesOf "->") ≡ fine (mark kArrow 0 ∷ [])
+unfolding wordsFrom
+w4 = refl
+
+w5 : wordsOf (bytesOf " - 1") ≡ refuse BYTE 1
+unfolding wordsFrom
+w5 = refl
+
+w6 : wordsOf (bytesOf "2147483647 -2147483648") ≡ fine (number 0 (pos 2147483647) ∷ number 11 (negsuc 2147483647) ∷ [])
+unfolding wordsFrom
+w6 = refl
+
+w7 : wordsOf (bytesOf "x 2147483648 ?") ≡ refuse NUMBER 2
+unfolding wordsFrom
+w7 = refl
+
+r1 : read (bytesOf "[ECHO 1]") ≡ fine (block 0 (last (echo 1 (num 6 (pos 1)))))
+unfolding read wordsFrom parse add-leaf add-fork link set-sib retype level past deep
+r1 = refl
+
+r2 : read (bytesOf "[]") ≡ refuse SYNTAX 1
+unfolding read wordsFrom parse add-leaf add-fork link set-sib retype level past deep
+r2 = refl
+
+t1 : table (block 0 (last (echo 1 (num 6 (pos 1))))) ≡ 0x0001000000010000 ∷ 0x0008000100020000 ∷ 0x0012000600000000 ∷ []
+unfolding table enc size first shapeExpr shapeCmds
+t1 = refl
+
+-- a tree in full: `[CONST x int 0; SET x 42]`
+r3 : read (bytesOf "[CONST x int 0; SET x 42]")
+    ≡ fine (block 0 (def-then (const 1 (at 7 (bytesOf "x")) (Syntax.int 9) (num 13 (pos 0))) (last (set 16 (at 20 (bytesOf "x")) (num 22 (pos 42))))))
+unfolding read wordsFrom parse add-leaf add-fork link set-sib retype level past deep
+r3 = refl
+
+r4 : read (bytesOf "[CALL p (adr v) (add x1 -7)]")
+    ≡ fine
+    (block 0
+    (last
+    (Syntax.call 1 (at 6 (bytesOf "p"))
+    (Syntax.adr 8 (at 13 (bytesOf "v"))
+    ∷ Syntax.val (app 16 (name (at 17 (bytesOf "add"))) (more-exprs (name (at 21 (bytesOf "x1"))) (one-expr (num 24 (negsuc 6)))))
+    ∷ []))))
+unfolding read wordsFrom parse add-leaf add-fork link set-sib retype level past deep
+r4 = refl
+
+-- `(adr` where an expression must stand is SYNTAX at `adr`; a CALL has at least one argument; after a definition only `;` goes on
+r5 : read (bytesOf "[ECHO (adr x)]") ≡ refuse SYNTAX 7
+unfolding read wordsFrom parse add-leaf add-fork link set-sib retype level past deep
+r5 = refl
+
+r6 : read (bytesOf "[CALL p]") ≡ refuse SYNTAX 7
+unfolding read wordsFrom parse add-leaf add-fork link set-sib retype level past deep
+r6 = refl
+
+r7 : read (bytesOf "[VAR x int]") ≡ refuse SYNTAX 10
+unfolding read wordsFrom parse add-leaf add-fork link set-sib retype level past deep
+r7 = refl
+
+-- words after the program; a text that ends too soon; no text
+r8 : read (bytesOf "[ECHO 1] ]") ≡ refuse SYNTAX 9
+unfolding read wordsFrom parse add-leaf add-fork link set-sib retype level past deep
+r8 = refl
+
+r9 : read (bytesOf "[ECHO 1 ") ≡ refuse SYNTAX 8
+unfolding read wordsFrom parse add-leaf add-fork link set-sib retype level past deep
+r9 = refl
+
+r10 : read [] ≡ refuse SYNTAX 0
+unfolding read wordsFrom parse add-leaf add-fork link set-sib retype level past deep
+r10 = refl
+
+-- BYTE or NUMBER, whichever stands first, before SYNTAX
+r11 : read (bytesOf "] 2147483648 #") ≡ refuse NUMBER 2
+unfolding read wordsFrom parse add-leaf add-fork link set-sib retype level past deep
+r11 = refl
+
+-- all symbols and key words, and words that only begin like them
+w8 : wordsOf (bytesOf "[]();:,*->CONST FUN REC VAR PROC ECHO SET IF WHILE CALL if and or bool int var adr")
+    ≡ fine
+    (mark Words.kLbr 0 ∷ mark Words.kRbr 1 ∷ mark Words.kLpar 2 ∷ mark Words.kRpar 3 ∷ mark Words.kSemi 4 ∷ mark Words.kColon 5 ∷ mark Words.kComma 6 ∷ mark Words.kStar 7 ∷ mark Words.kArrow 8
+    ∷ mark Words.kCONST 10 ∷ mark Words.kFUN 16 ∷ mark Words.kREC 20 ∷ mark Words.kVAR 24 ∷ mark Words.kPROC 28 ∷ mark Words.kECHO 33 ∷ mark Words.kSET 38 ∷ mark Words.kIF 42
+    ∷ mark Words.kWHILE 45 ∷ mark Words.kCALL 51 ∷ mark Words.kif 56 ∷ mark Words.kand 59 ∷ mark Words.kor 63 ∷ mark Words.kbool 66 ∷ mark Words.kint 71 ∷ mark Words.kvar 75 ∷ mark Words.kadr 79
+    ∷ [])
+unfolding wordsFrom
+w8 = refl
+
+w9 : wordsOf (bytesOf "ECHO1\tiff\r\nIf") ≡ fine (named (at 0 (bytesOf "ECHO1")) ∷ named (at 6 (bytesOf "iff")) ∷ named (at 11 (bytesOf "If")) ∷ [])
+unfolding wordsFrom
+w9 = refl
+
+-- a byte that is in no word, and one past ASCII
+w10 : wordsOf (91 ∷ 195 ∷ 169 ∷ []) ≡ refuse BYTE 1
+unfolding wordsFrom
+w10 = refl

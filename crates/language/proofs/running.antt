@@ -1,0 +1,4 @@
+pub mod Sound
+pub mod Stable
+pub mod Counts
+pub mod Rounds

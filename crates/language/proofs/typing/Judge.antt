@@ -1,0 +1,206 @@
+-- The judge, executable: a type, or the refusal and the place of the first node whose own rule cannot be met.
+-- Nothing here is to be believed: the claims JudgeAccepts and JudgeRefuses tie it to the typing rules.
+use Prim.Native.Nat.{ℕ}
+use mathlib.Core.Bool.{Bool, true, false}
+use mathlib.Core.List.{List, [], _∷_}
+use mathlib.Core.Option.{Option, none, some}
+use Rattle.language.specs.Syntax.{at, ArgP, val-arg, var-arg, Expr, num, name, if-expr, and, or, app, abs, Exprs, one-expr, more-exprs, ExprP, val, adr, Cmds, last, def-then, stat-then, Def, const, fun, fun-rec, var, proc, proc-rec, Stat, echo, set, if-stat, while, call, Block, block}
+use Rattle.language.specs.Places.{place-param}
+use Rattle.language.specs.Answers.{Refusal, TYPE}
+use Rattle.language.specs.Names.{Op, Meaning, literal, operator, free, meaning, head-operator}
+use Rattle.language.specs.Types.{Base, boolean, integer, Ty, base, fn, Tys, tnil, tcons, BOOL, INT, typeOf, Par, value, ref, Entity, plain, procedure, Ctx, find, extend, values, pars, declared, arg-types, fun-type, takes, result}
+use Rattle.language.specs.Order.{after-def}
+use Rattle.language.specs.Limits.{Limits}
+use Rattle.language.specs.Rules.{run}
+use Rattle.language.specs.Outcome.{Report, report, refusal-report}
+
+pub data Result (A : Type 0) : Type 0 where
+  fine : A → Result A
+  refuse : Refusal → (place : ℕ) → Result A
+
+module _ {A B : Type 0} where
+  unfoldable pub andThen : Result A → (A → Result B) → Result B
+  andThen (fine a) k = k a
+  andThen (refuse r p) k = refuse r p
+
+module _ {A : Type 0} where
+  -- a node's own rule
+  unfoldable pub judged : ℕ → Option A → Result A
+  judged p none = refuse TYPE p
+  judged p (some a) = fine a
+
+  unfoldable pub only : Bool → Option A → Option A
+  only true o = o
+  only false o = none
+
+-- a node that only has to pass a test
+unfoldable pub passes : ℕ → Bool → Result (Unit {0})
+passes p b = judged p (only b (some tt))
+
+abbrev pub andb : Bool → Bool → Bool
+andb true b = b
+andb false b = false
+
+abbrev pub same-base : Base → Base → Bool
+same-base boolean boolean = true
+same-base boolean integer = false
+same-base integer boolean = false
+same-base integer integer = true
+
+unfoldable mutual
+  pub same-type : Ty → Ty → Bool
+  same-type (base a) (base b) = same-base a b
+  same-type (base a) (fn us u) = false
+  same-type (fn ts t) (base b) = false
+  same-type (fn ts t) (fn us u) = andb (same-types ts us) (same-type t u)
+
+  pub same-types : Tys → Tys → Bool
+  same-types tnil tnil = true
+  same-types tnil (tcons u us) = false
+  same-types (tcons t ts) tnil = false
+  same-types (tcons t ts) (tcons u us) = andb (same-type t u) (same-types ts us)
+
+abbrev pub same-par : Par → Par → Bool
+same-par (value t) (value u) = same-type t u
+same-par (value t) (ref u) = false
+same-par (ref t) (value u) = false
+same-par (ref t) (ref u) = same-type t u
+
+abbrev pub same-pars : List Par → List Par → Bool
+same-pars [] [] = true
+same-pars [] (r ∷ rs) = false
+same-pars (q ∷ qs) [] = false
+same-pars (q ∷ qs) (r ∷ rs) = andb (same-par q r) (same-pars qs rs)
+
+abbrev pub is-free : Meaning → Bool
+is-free (literal b) = false
+is-free (operator o) = false
+is-free free = true
+
+abbrev pub is-base : Ty → Bool
+is-base (base b) = true
+is-base (fn ts t) = false
+
+abbrev pub declarable : ArgP → Bool
+declarable (val-arg (at p x) t) = is-free (meaning x)
+declarable (var-arg (at p x) t) = andb (is-free (meaning x)) (is-base (typeOf t))
+
+abbrev pub read-type : Option Entity → Option Ty
+read-type none = none
+read-type (some (plain (value t))) = some t
+read-type (some (plain (ref t))) = some t
+read-type (some (procedure qs)) = none
+
+abbrev pub name-type : Meaning → Option Entity → Option Ty
+name-type (literal b) o = some BOOL
+name-type (operator f) o = none
+name-type free o = read-type o
+
+abbrev pub if-type : Ty → Ty → Ty → Option Ty
+if-type a b c = only (same-type a BOOL) (only (same-type c b) (some b))
+
+abbrev pub bools-type : Ty → Ty → Option Ty
+bools-type a b = only (same-type a BOOL) (only (same-type b BOOL) (some BOOL))
+
+abbrev pub prim-type : Op → Tys → Option Ty
+prim-type o ts = only (same-types ts (takes o)) (some (base (result o)))
+
+abbrev pub app-type : Ty → Tys → Option Ty
+app-type (base b) us = none
+app-type (fn ts t) us = only (same-types us ts) (some t)
+
+abbrev pub judge-app : ℕ → Option Op → Result Ty → Result Tys → Result Ty
+judge-app p (some o) f es = andThen es λ ts. judged p (prim-type o ts)
+judge-app p none f es = andThen f λ tf. andThen es λ ts. judged p (app-type tf ts)
+
+unfoldable pub judge-params : List ArgP → Result (Unit {0})
+judge-params [] = fine tt
+judge-params (a ∷ ps) = andThen (passes (place-param a) (declarable a)) λ u. judge-params ps
+
+unfoldable mutual
+  pub judge-expr : Ctx → Expr → Result Ty
+  judge-expr Γ (num p n) = fine INT
+  judge-expr Γ (name (at p x)) = judged p (name-type (meaning x) (find Γ x))
+  judge-expr Γ (if-expr p a b c) = andThen (judge-expr Γ a) λ ta. andThen (judge-expr Γ b) λ tb. andThen (judge-expr Γ c) λ tc. judged p (if-type ta tb tc)
+  judge-expr Γ (and p a b) = andThen (judge-expr Γ a) λ ta. andThen (judge-expr Γ b) λ tb. judged p (bools-type ta tb)
+  judge-expr Γ (or p a b) = andThen (judge-expr Γ a) λ ta. andThen (judge-expr Γ b) λ tb. judged p (bools-type ta tb)
+  judge-expr Γ (app p f es) = judge-app p (head-operator f) (judge-expr Γ f) (judge-exprs Γ es)
+  judge-expr Γ (abs p ps e) =
+      andThen (judge-params (values ps)) λ u. andThen (judge-expr (extend (declared (values ps)) Γ) e) λ t. judged p (some (fn (arg-types ps) t))
+
+  pub judge-exprs : Ctx → Exprs → Result Tys
+  judge-exprs Γ (one-expr e) = andThen (judge-expr Γ e) λ t. fine (tcons t tnil)
+  judge-exprs Γ (more-exprs e es) = andThen (judge-expr Γ e) λ t. andThen (judge-exprs Γ es) λ ts. fine (tcons t ts)
+
+-- the target of SET or adr, and of CALL
+abbrev pub ref-type : Option Entity → Option Ty
+ref-type none = none
+ref-type (some (plain (value t))) = none
+ref-type (some (plain (ref t))) = some t
+ref-type (some (procedure qs)) = none
+
+abbrev pub call-pars : Option Entity → Option (List Par)
+call-pars none = none
+call-pars (some (plain q)) = none
+call-pars (some (procedure qs)) = some qs
+
+abbrev pub fits-ref : Option Ty → Ty → Bool
+fits-ref none t = false
+fits-ref (some u) t = same-type t u
+
+abbrev pub fits-call : Option (List Par) → List Par → Bool
+fits-call none rs = false
+fits-call (some qs) rs = same-pars rs qs
+
+abbrev pub as-ref : Option Ty → Option Par
+as-ref none = none
+as-ref (some t) = some (ref t)
+
+unfoldable pub judge-arg : Ctx → ExprP → Result Par
+judge-arg Γ (val e) = andThen (judge-expr Γ e) λ t. fine (value t)
+judge-arg Γ (adr p (at q x)) = judged p (as-ref (ref-type (find Γ x)))
+
+unfoldable pub judge-args : Ctx → List ExprP → Result (List Par)
+judge-args Γ [] = fine []
+judge-args Γ (a ∷ as′) = andThen (judge-arg Γ a) λ q. andThen (judge-args Γ as′) λ qs. fine (q ∷ qs)
+
+unfoldable mutual
+  pub judge-block : Ctx → Block → Result (Unit {0})
+  judge-block Γ (block p cs) = judge-cmds Γ cs
+
+  pub judge-cmds : Ctx → Cmds → Result (Unit {0})
+  judge-cmds Γ (def-then d cs) = andThen (judge-def Γ d) λ u. judge-cmds (after-def d Γ) cs
+  judge-cmds Γ (stat-then c cs) = andThen (judge-stat Γ c) λ u. judge-cmds Γ cs
+  judge-cmds Γ (last c) = judge-stat Γ c
+
+  pub judge-def : Ctx → Def → Result (Unit {0})
+  judge-def Γ (const p (at q x) t e) = andThen (judge-expr Γ e) λ u. passes p (andb (is-free (meaning x)) (same-type u (typeOf t)))
+  judge-def Γ (fun p (at q x) t ps e) =
+      andThen (judge-params (values ps)) λ v. andThen (judge-expr (extend (declared (values ps)) Γ) e) λ u.
+      passes p (andb (is-free (meaning x)) (same-type u (typeOf t)))
+  judge-def Γ (fun-rec p (at q x) t ps e) =
+      andThen (judge-params (values ps)) λ v. andThen (judge-expr ((x, plain (value (fun-type ps t))) ∷ extend (declared (values ps)) Γ) e) λ u.
+      passes p (andb (is-free (meaning x)) (same-type u (typeOf t)))
+  judge-def Γ (var p (at q x) t) = passes p (andb (is-free (meaning x)) (is-base (typeOf t)))
+  judge-def Γ (proc p (at q x) ps b) = andThen (judge-params ps) λ v. andThen (judge-block (extend (declared ps) Γ) b) λ u. passes p (is-free (meaning x))
+  judge-def Γ (proc-rec p (at q x) ps b) =
+      andThen (judge-params ps) λ v. andThen (judge-block ((x, procedure (pars ps)) ∷ extend (declared ps) Γ) b) λ u. passes p (is-free (meaning x))
+
+  pub judge-stat : Ctx → Stat → Result (Unit {0})
+  judge-stat Γ (echo p e) = andThen (judge-expr Γ e) λ t. passes p (same-type t INT)
+  judge-stat Γ (set p (at q x) e) = andThen (judge-expr Γ e) λ t. passes p (fits-ref (ref-type (find Γ x)) t)
+  judge-stat Γ (if-stat p e a b) = andThen (judge-expr Γ e) λ t. andThen (judge-block Γ a) λ u. andThen (judge-block Γ b) λ v. passes p (same-type t BOOL)
+  judge-stat Γ (while p e b) = andThen (judge-expr Γ e) λ t. andThen (judge-block Γ b) λ u. passes p (same-type t BOOL)
+  judge-stat Γ (call p (at q x) as′) = andThen (judge-args Γ as′) λ qs. passes p (fits-call (call-pars (find Γ x)) qs)
+
+-- a program, judged from no names
+abbrev pub judge : Block → Result (Unit {0})
+judge b = judge-block [] b
+
+-- the report after a verdict
+abbrev pub report-after : Limits → Block → Result (Unit {0}) → Report
+report-after L b (fine u) = report (run L b)
+report-after L b (refuse r q) = refusal-report r q
+
+abbrev pub gate : Limits → Block → Report
+gate L b = report-after L b (judge b)

@@ -1,0 +1,299 @@
+-- The judge is right about what it accepts, and about the place where it refuses.
+use mathlib.Core.Path.{_≡_, refl, sym, _∙_, ap, subst}
+use mathlib.Core.Logic.{_↔_, _⊎_, inl, inr}
+use Prim.Native.Nat.{ℕ}
+use mathlib.Core.Bool.{Bool, true, false}
+use mathlib.Core.List.{List, [], _∷_, _++_}
+use mathlib.Core.Option.{Option, none, some}
+use lib.Dec.{T}
+use Rattle.language.specs.Syntax.{Name, at, ArgP, Expr, num, name, if-expr, and, or, app, abs, Exprs, one-expr, more-exprs, ExprP, val, adr, Cmds, last, def-then, stat-then, Def, const, fun, fun-rec, var, proc, proc-rec, Stat, echo, set, if-stat, while, call, Block, block}
+use Rattle.language.specs.Places.{place-expr, place-param}
+use Rattle.language.specs.Answers.{Refusal, TYPE}
+use Rattle.language.specs.Names.{Op, Meaning, literal, operator, free, meaning, head-operator}
+use Rattle.language.specs.Types.{Ty, base, fn, Tys, tnil, tcons, BOOL, INT, typeOf, Par, value, ref, Entity, plain, procedure, Ctx, find, extend, values, declared, takes}
+use Rattle.language.specs.Typing.{Free, Declarable, AllDeclarable, HasE, NUM, LITERAL, IDV, IDR, IF, AND, OR, PRIM, APP, ABS, HasEs, ONE, MORE, HasA, REF, VAL, HasAs, NO-ARGS, ARGS, HasB, BLOC, HasC, DECS, STATS, END, HasD, CONST, FUN, FUNREC, VAR, PROC, PROCREC, HasS, ECHO, SET, IFS, WHILE, CALL, Typable}
+use Rattle.language.specs.Order.{JudgedNode, expr-node, adr-node, param-node, def-node, stat-node, place-node, Typed, after-def, nodes-params, nodes-head, nodes-expr, nodes-exprs, nodes-arg, nodes-args, nodes-block, nodes-cmds, nodes-def, nodes-stat, FirstBad, here, later, TypeRefused}
+use Rattle.language.proofs.typing.Judge.{Result, fine, refuse, andThen, judged, only, passes, andb, same-type, same-types, is-free, is-base, name-type, if-type, bools-type, prim-type, app-type, judge-app, judge-params, judge-expr, judge-exprs, ref-type, call-pars, fits-ref, fits-call, as-ref, judge-arg, judge-args, judge-block, judge-cmds, judge-def, judge-stat, judge}
+use Rattle.language.proofs.typing.SameType.{andb-l, andb-r, same-type-is, same-types-is, same-pars-is, free-is, base-is, declarable-in, declarable-is}
+use Rattle.language.proofs.typing.Unique.{Is, is, IsO, isO, is-pass, complete-params, complete-expr, complete-exprs, complete-arg, complete-args, complete-block, complete-def, complete-stat}
+
+pub data AllTyped : List JudgedNode → Type 0 where
+  allNil : AllTyped []
+  allCons : {n : JudgedNode} {l : List JudgedNode} → Typed n → AllTyped l → AllTyped (n ∷ l)
+
+-- a verdict over the nodes R: fine, and P of the result and all are typed; or TYPE at the first that is not
+pub data View {A : Type 0} (P : A → Type 0) (R : List JudgedNode) : Result A → Type 0 where
+  vfine : {a : A} → P a → AllTyped R → View P R (fine a)
+  vbad : {q : ℕ} → FirstBad R q → View P R (refuse TYPE q)
+
+all-app : {l m : List JudgedNode} → AllTyped l → AllTyped m → AllTyped (l ++ m)
+all-app allNil k = k
+all-app (allCons h r) k = allCons h (all-app r k)
+
+first-app : {l : List JudgedNode} (m : List JudgedNode) {q : ℕ} → FirstBad l q → FirstBad (l ++ m) q
+first-app m (here h) = here h
+first-app m (later h r) = later h (first-app m r)
+
+later-app : {l m : List JudgedNode} {q : ℕ} → AllTyped l → FirstBad m q → FirstBad (l ++ m) q
+later-app allNil k = k
+later-app (allCons h r) k = later h (later-app r k)
+
+shift : {B : Type 0} {Q : B → Type 0} {R R′ : List JudgedNode} {o : Result B} → AllTyped R → View Q R′ o → View Q (R ++ R′) o
+shift al (vfine q al′) = vfine q (all-app al al′)
+shift al (vbad f) = vbad (later-app al f)
+
+-- a part, and then the rest
+seq : {A B : Type 0} {P : A → Type 0} {Q : B → Type 0} {R R′ : List JudgedNode} {o : Result A} {k : A → Result B} → View P R o →
+    ((a : A) → P a → View Q R′ (k a)) → View Q (R ++ R′) (andThen o k)
+unfolding andThen
+seq (vfine {a = a} p al) f = shift al (f a p)
+seq {R′ = R′} (vbad b) f = vbad (first-app R′ b)
+
+-- a part, and then a result of it
+seq-fine : {A B : Type 0} {P : A → Type 0} {Q : B → Type 0} {R : List JudgedNode} {o : Result A} (f : A → B) → View P R o → ((a : A) → P a → Q (f a)) →
+    View Q R (andThen o λ a. fine (f a))
+unfolding andThen
+seq-fine f (vfine {a = a} p al) g = vfine (g a p) al
+seq-fine f (vbad b) g = vbad b
+
+no-is : {A : Type 0} {t : A} {r : Refusal} {p : ℕ} → Is t (refuse r p) → ⊥
+no-is = elim [ ]
+
+no-isO : {A : Type 0} {t : A} → IsO t none → ⊥
+no-isO = elim [ ]
+
+map-view : {A : Type 0} {P Q : A → Type 0} {R : List JudgedNode} {o : Result A} → ((a : A) → P a → Q a) → View P R o → View Q R o
+map-view f (vfine p al) = vfine (f _ p) al
+map-view f (vbad b) = vbad b
+
+-- the node's own rule, with what the node is given
+own : {A : Type 0} {P : A → Type 0} (n : JudgedNode) (p : ℕ) (o : Option A) → place-node n ≡ p →
+    ((a : A) → IsO a o → P a) → ((a : A) → P a → Typed n) → (Typed n → (a : A) × Is a (judged p o)) → View P (n ∷ []) (judged p o)
+unfolding judged
+own {P = P} n p none q f t g = subst (λ p. View P (n ∷ []) (refuse TYPE p)) q (vbad (here (λ h. no-is ((g h) .1))))
+own n p (some a) q f t g = vfine (f a isO) (allCons (t a (f a isO)) allNil)
+
+-- the same for a node that only has to pass a test
+pass : {X : Type 0} (n : JudgedNode) (p : ℕ) (b : Bool) → place-node n ≡ p → (T b → X) → (X → Typed n) → (Typed n → Is tt (passes p b)) →
+    View (λ (u : Unit {0}). X) (n ∷ []) (passes p b)
+unfolding passes judged only
+pass n p true q f t g = vfine (f tt) (allCons (t (f tt)) allNil)
+pass {X = X} n p false q f t g = subst (λ p. View (λ (u : Unit {0}). X) (n ∷ []) (refuse TYPE p)) q (vbad (here (λ h. no-is (g h))))
+
+-- past a part that is fine
+peel : {A B : Type 0} {a : A} {b : B} {o : Result A} (k : A → Result B) → Is a o → Is b (andThen o k) → Is b (k a)
+unfolding andThen
+peel k is h = h
+
+only-inv : {A : Type 0} {a : A} {o : Option A} (b : Bool) → IsO a (only b o) → T b × IsO a o
+unfolding only
+only-inv true h = (tt, h)
+only-inv false h = absurd (no-isO h)
+
+isO-uniq : {A : Type 0} {a b : A} → IsO a (some b) → b ≡ a
+isO-uniq isO = refl
+
+-- ---- each own rule gives what its typing rule says
+
+-- a part of the type that the rule wants
+as-type : {Γ : Ctx} {e : Expr} {t : Ty} (u : Ty) → T (same-type t u) → HasE Γ e t → HasE Γ e u
+as-type {Γ} {e} {t} u b h = subst (λ t. HasE Γ e t) (same-type-is t u b) h
+
+as-types : {Γ : Ctx} {es : Exprs} {ts : Tys} (us : Tys) → T (same-types ts us) → HasEs Γ es ts → HasEs Γ es us
+as-types {Γ} {es} {ts} us b h = subst (λ ts. HasEs Γ es ts) (same-types-is ts us b) h
+
+name-own : {Γ : Ctx} {p : ℕ} {x : Name} {t : Ty} (m : Meaning) (o : Option Entity) → meaning x ≡ m → find Γ x ≡ o → IsO t (name-type m o) →
+    HasE Γ (name (at p x)) t
+name-own (literal b) o e f isO = LITERAL e
+name-own (operator g) o e f h = absurd (no-isO h)
+name-own free none e f h = absurd (no-isO h)
+name-own free (some (plain (value t))) e f isO = IDV f
+name-own free (some (plain (ref t))) e f isO = IDR f
+name-own free (some (procedure qs)) e f h = absurd (no-isO h)
+
+if-own : {Γ : Ctx} {p : ℕ} {a b c : Expr} {ta tb tc t : Ty} → HasE Γ a ta → HasE Γ b tb → HasE Γ c tc → IsO t (if-type ta tb tc) → HasE Γ (if-expr p a b c) t
+if-own {Γ} {p} {a} {b} {c} {ta} {tb} {tc} ha hb hc i =
+    let u = only-inv (same-type ta BOOL) i in let v = only-inv (same-type tc tb) (u .1) in
+    subst (λ t. HasE Γ (if-expr p a b c) t) (isO-uniq (v .1)) (IF (as-type BOOL (u .0) ha) hb (as-type tb (v .0) hc))
+
+bools-own : {Γ : Ctx} {a b e : Expr} {ta tb t : Ty} → (HasE Γ a BOOL → HasE Γ b BOOL → HasE Γ e BOOL) → HasE Γ a ta → HasE Γ b tb → IsO t (bools-type ta tb) →
+    HasE Γ e t
+bools-own {Γ} {a} {b} {e} {ta} {tb} rule ha hb i =
+    let u = only-inv (same-type ta BOOL) i in let v = only-inv (same-type tb BOOL) (u .1) in
+    subst (λ t. HasE Γ e t) (isO-uniq (v .1)) (rule (as-type BOOL (u .0) ha) (as-type BOOL (v .0) hb))
+
+prim-own : {Γ : Ctx} {p : ℕ} {f : Expr} {o : Op} {es : Exprs} {ts : Tys} {t : Ty} → head-operator f ≡ some o → HasEs Γ es ts → IsO t (prim-type o ts) →
+    HasE Γ (app p f es) t
+prim-own {Γ} {p} {f} {o} {es} {ts} e h i =
+    let u = only-inv (same-types ts (takes o)) i in subst (λ t. HasE Γ (app p f es) t) (isO-uniq (u .1)) (PRIM e (as-types (takes o) (u .0) h))
+
+app-own : {Γ : Ctx} {p : ℕ} {f : Expr} {es : Exprs} (tf : Ty) {us : Tys} {t : Ty} → HasE Γ f tf → HasEs Γ es us → IsO t (app-type tf us) → HasE Γ (app p f es) t
+app-own (base b) hf hs i = absurd (no-isO i)
+app-own {Γ} {p} {f} {es} (fn ts r) {us} hf hs i =
+    let u = only-inv (same-types us ts) i in subst (λ t. HasE Γ (app p f es) t) (isO-uniq (u .1)) (APP hf (as-types ts (u .0) hs))
+
+view-params : (ps : List ArgP) → View (λ u. AllDeclarable ps) (nodes-params ps) (judge-params ps)
+unfolding judge-params
+view-params [] = vfine tt allNil
+view-params (a ∷ ps) = seq (pass {X = Declarable a} (param-node a) (place-param a) _ refl (declarable-is a) (λ h. h) (λ h. is-pass _ _ (declarable-in a h)))
+    λ u h. map-view (λ v hs. (h, hs)) (view-params ps)
+
+exp : {Γ : Ctx} {e : Expr} (o : Option Ty) → ((t : Ty) → IsO t o → HasE Γ e t) → ((t : Ty) → HasE Γ e t → Is t (judged (place-expr e) o)) →
+    View (HasE Γ e) (expr-node Γ e ∷ []) (judged (place-expr e) o)
+exp {Γ} {e} o f g = own (expr-node Γ e) (place-expr e) o refl f (λ t h. (t, h)) (λ h. (h .0, g (h .0) (h .1)))
+
+-- an application, by its head
+view-app : {Γ : Ctx} (p : ℕ) (f : Expr) (es : Exprs) (g : Option Op) → head-operator f ≡ g → View (HasE Γ f) (nodes-expr Γ f) (judge-expr Γ f) →
+    View (HasEs Γ es) (nodes-exprs Γ es) (judge-exprs Γ es) →
+    ((t : Ty) → HasE Γ (app p f es) t → Is t (judge-app p g (judge-expr Γ f) (judge-exprs Γ es))) →
+    View (HasE Γ (app p f es)) (nodes-head g (nodes-expr Γ f) ++ (nodes-exprs Γ es ++ (expr-node Γ (app p f es) ∷ []))) (judge-app p g (judge-expr Γ f) (judge-exprs Γ es))
+view-app p f es (some o) e vf vs c = seq vs λ ts hs. exp _ (λ t i. prim-own e hs i) (λ t h. peel _ (complete-exprs es hs) (c t h))
+view-app p f es none e vf vs c =
+    seq vf λ tf hf. seq vs λ ts hs. exp _ (λ t i. app-own tf hf hs i) (λ t h. peel _ (complete-exprs es hs) (peel _ (complete-expr f hf) (c t h)))
+
+mutual
+  unfolding judge-expr nodes-expr
+
+  pub view-expr : (e : Expr) (Γ : Ctx) → View (HasE Γ e) (nodes-expr Γ e) (judge-expr Γ e)
+  view-expr (num p n) Γ = vfine NUM (allCons {n = expr-node Γ (num p n)} (_, NUM) allNil)
+  view-expr (name (at p x)) Γ = exp _ (λ t i. name-own (meaning x) (find Γ x) refl refl i) (λ t h. complete-expr (name (at p x)) h)
+  view-expr (if-expr p a b c) Γ = seq (view-expr a Γ) λ ta ha. seq (view-expr b Γ) λ tb hb. seq (view-expr c Γ) λ tc hc.
+      exp _ (λ t i. if-own ha hb hc i) (λ t h. peel _ (complete-expr c hc) (peel _ (complete-expr b hb) (peel _ (complete-expr a ha) (complete-expr (if-expr p a b c) h))))
+  view-expr (and p a b) Γ = seq (view-expr a Γ) λ ta ha. seq (view-expr b Γ) λ tb hb.
+      exp _ (λ t i. bools-own AND ha hb i) (λ t h. peel _ (complete-expr b hb) (peel _ (complete-expr a ha) (complete-expr (and p a b) h)))
+  view-expr (or p a b) Γ = seq (view-expr a Γ) λ ta ha. seq (view-expr b Γ) λ tb hb.
+      exp _ (λ t i. bools-own OR ha hb i) (λ t h. peel _ (complete-expr b hb) (peel _ (complete-expr a ha) (complete-expr (or p a b) h)))
+  view-expr (app p f es) Γ = view-app p f es (head-operator f) refl (view-expr f Γ) (view-exprs es Γ) (λ t h. complete-expr (app p f es) h)
+  view-expr (abs p ps e) Γ = seq (view-params (values ps)) λ u g. seq (view-expr e (extend (declared (values ps)) Γ)) λ tb hb.
+      exp _ (λ t i. subst (λ t. HasE Γ (abs p ps e) t) (isO-uniq i) (ABS g hb)) (λ t h. peel _ (complete-expr e hb) (peel _ (complete-params (values ps) g) (complete-expr (abs p ps e) h)))
+
+  pub view-exprs : (es : Exprs) (Γ : Ctx) → View (HasEs Γ es) (nodes-exprs Γ es) (judge-exprs Γ es)
+  view-exprs (one-expr e) Γ = seq-fine (λ t. tcons t tnil) (view-expr e Γ) λ t h. ONE h
+  view-exprs (more-exprs e es) Γ = seq (view-expr e Γ) λ t h. seq-fine (λ ts. tcons t ts) (view-exprs es Γ) λ ts hs. MORE h hs
+
+-- ---- commands
+
+ref-own : {Γ : Ctx} {p r : ℕ} {x : Name} {q : Par} (o : Option Entity) → find Γ x ≡ o → IsO q (as-ref (ref-type o)) → HasA Γ (adr p (at r x)) q
+ref-own none e h = absurd (no-isO h)
+ref-own (some (plain (value t))) e h = absurd (no-isO h)
+ref-own (some (plain (ref t))) e isO = REF e
+ref-own (some (procedure qs)) e h = absurd (no-isO h)
+
+view-arg : (a : ExprP) (Γ : Ctx) → View (HasA Γ a) (nodes-arg Γ a) (judge-arg Γ a)
+unfolding judge-arg
+view-arg (val e) Γ = seq-fine value (view-expr e Γ) λ t h. VAL h
+view-arg (adr p (at r x)) Γ =
+    own (adr-node Γ p (at r x)) p _ refl (λ q i. ref-own (find Γ x) refl i) (λ q h. (q, h)) (λ h. (h .0, complete-arg (adr p (at r x)) (h .1)))
+
+view-args : (as′ : List ExprP) (Γ : Ctx) → View (HasAs Γ as′) (nodes-args Γ as′) (judge-args Γ as′)
+unfolding judge-args
+view-args [] Γ = vfine NO-ARGS allNil
+view-args (a ∷ as′) Γ = seq (view-arg a Γ) λ q h. seq-fine (λ qs. q ∷ qs) (view-args as′ Γ) λ qs hs. ARGS h hs
+
+set-own : {Γ : Ctx} {p q : ℕ} {x : Name} {e : Expr} {t : Ty} (o : Option Entity) → find Γ x ≡ o → HasE Γ e t → T (fits-ref (ref-type o) t) →
+    HasS Γ (set p (at q x) e)
+set-own none f h b = absurd b
+set-own (some (plain (value u))) f h b = absurd b
+set-own (some (plain (ref u))) f h b = SET f (as-type u b h)
+set-own (some (procedure qs)) f h b = absurd b
+
+call-own : {Γ : Ctx} {p q : ℕ} {x : Name} {as′ : List ExprP} {rs : List Par} (o : Option Entity) → find Γ x ≡ o → HasAs Γ as′ rs →
+    T (fits-call (call-pars o) rs) → HasS Γ (call p (at q x) as′)
+call-own none f h b = absurd b
+call-own (some (plain q)) f h b = absurd b
+call-own {Γ} {as′ = as′} {rs = rs} (some (procedure qs)) f h b = CALL f (subst (λ rs. HasAs Γ as′ rs) (same-pars-is rs qs b) h)
+
+-- a definition's own test: its name is free and its part has its type
+typed-def : {X : Type 0} {Γ : Ctx} {e : Expr} (x : Name) (v t : Ty) → (Free x → HasE Γ e t → X) → HasE Γ e v →
+    T (andb (is-free (meaning x)) (same-type v t)) → X
+typed-def x v t rule h b = rule (free-is x (andb-l (is-free (meaning x)) (same-type v t) b)) (as-type t (andb-r (is-free (meaning x)) (same-type v t) b) h)
+
+mutual
+  unfolding judge-cmds nodes-cmds
+
+  pub view-block : (b : Block) (Γ : Ctx) → View (λ u. HasB Γ b) (nodes-block Γ b) (judge-block Γ b)
+  view-block (block p cs) Γ = map-view (λ u h. BLOC h) (view-cmds cs Γ)
+
+  pub view-cmds : (cs : Cmds) (Γ : Ctx) → View (λ u. HasC Γ cs) (nodes-cmds Γ cs) (judge-cmds Γ cs)
+  view-cmds (def-then d cs) Γ = seq (view-def d Γ) λ u h. map-view (λ u hs. DECS h hs) (view-cmds cs (after-def d Γ))
+  view-cmds (stat-then c cs) Γ = seq (view-stat c Γ) λ u h. map-view (λ u hs. STATS h hs) (view-cmds cs Γ)
+  view-cmds (last c) Γ = map-view (λ u h. END h) (view-stat c Γ)
+
+  pub view-def : (d : Def) (Γ : Ctx) → View (λ u. HasD Γ d (after-def d Γ)) (nodes-def Γ d) (judge-def Γ d)
+  view-def (const p (at q x) t e) Γ = seq (view-expr e Γ) λ v h.
+      pass (def-node Γ (const p (at q x) t e)) p _ refl (typed-def x v (typeOf t) CONST h) (λ k. (_, k))
+      (λ k. peel _ (complete-expr e h) (complete-def (const p (at q x) t e) (k .1)))
+  view-def (fun p (at q x) t ps e) Γ = seq (view-params (values ps)) λ u g. seq (view-expr e _) λ v h.
+      pass (def-node Γ (fun p (at q x) t ps e)) p _ refl (typed-def x v (typeOf t) (λ f d. FUN f g d) h) (λ k. (_, k))
+      (λ k. peel _ (complete-expr e h) (peel _ (complete-params (values ps) g) (complete-def (fun p (at q x) t ps e) (k .1))))
+  view-def (fun-rec p (at q x) t ps e) Γ = seq (view-params (values ps)) λ u g. seq (view-expr e _) λ v h.
+      pass (def-node Γ (fun-rec p (at q x) t ps e)) p _ refl (typed-def x v (typeOf t) (λ f d. FUNREC f g d) h) (λ k. (_, k))
+      (λ k. peel _ (complete-expr e h) (peel _ (complete-params (values ps) g) (complete-def (fun-rec p (at q x) t ps e) (k .1))))
+  view-def (var p (at q x) t) Γ = pass (def-node Γ (var p (at q x) t)) p _ refl
+      (λ b. VAR (free-is x (andb-l (is-free (meaning x)) (is-base (typeOf t)) b)) (base-is (typeOf t) (andb-r (is-free (meaning x)) (is-base (typeOf t)) b)))
+      (λ k. (_, k)) (λ k. complete-def (var p (at q x) t) (k .1))
+  view-def (proc p (at q x) ps b) Γ = seq (view-params ps) λ u g. seq (view-block b _) λ v h.
+      pass (def-node Γ (proc p (at q x) ps b)) p _ refl (λ f. PROC (free-is x f) g h) (λ k. (_, k))
+      (λ k. peel _ (complete-block b h) (peel _ (complete-params ps g) (complete-def (proc p (at q x) ps b) (k .1))))
+  view-def (proc-rec p (at q x) ps b) Γ = seq (view-params ps) λ u g. seq (view-block b _) λ v h.
+      pass (def-node Γ (proc-rec p (at q x) ps b)) p _ refl (λ f. PROCREC (free-is x f) g h) (λ k. (_, k))
+      (λ k. peel _ (complete-block b h) (peel _ (complete-params ps g) (complete-def (proc-rec p (at q x) ps b) (k .1))))
+
+  pub view-stat : (c : Stat) (Γ : Ctx) → View (λ u. HasS Γ c) (nodes-stat Γ c) (judge-stat Γ c)
+  view-stat (echo p e) Γ = seq (view-expr e Γ) λ t h.
+      pass (stat-node Γ (echo p e)) p _ refl (λ b. ECHO (as-type INT b h)) (λ k. k) (λ k. peel _ (complete-expr e h) (complete-stat (echo p e) k))
+  view-stat (set p (at q x) e) Γ = seq (view-expr e Γ) λ t h.
+      pass (stat-node Γ (set p (at q x) e)) p _ refl (λ b. set-own (find Γ x) refl h b) (λ k. k) (λ k. peel _ (complete-expr e h) (complete-stat (set p (at q x) e) k))
+  view-stat (if-stat p e a b) Γ = seq (view-expr e Γ) λ t h. seq (view-block a Γ) λ u k. seq (view-block b Γ) λ v l.
+      pass (stat-node Γ (if-stat p e a b)) p _ refl (λ q. IFS (as-type BOOL q h) k l) (λ k. k)
+      (λ m. peel _ (complete-block b l) (peel _ (complete-block a k) (peel _ (complete-expr e h) (complete-stat (if-stat p e a b) m))))
+  view-stat (while p e b) Γ = seq (view-expr e Γ) λ t h. seq (view-block b Γ) λ u k.
+      pass (stat-node Γ (while p e b)) p _ refl (λ q. WHILE (as-type BOOL q h) k) (λ k. k) (λ m. peel _ (complete-block b k) (peel _ (complete-expr e h) (complete-stat (while p e b) m)))
+  view-stat (call p (at q x) as′) Γ = seq (view-args as′ Γ) λ qs h.
+      pass (stat-node Γ (call p (at q x) as′)) p _ refl (λ b. call-own (find Γ x) refl h b) (λ k. k) (λ k. peel _ (complete-args as′ h) (complete-stat (call p (at q x) as′) k))
+
+-- ---- verdicts
+
+first-unique : {l : List JudgedNode} {q r : ℕ} → FirstBad l q → FirstBad l r → q ≡ r
+first-unique (here h) (here k) = refl
+first-unique (here h) (later t k) = absurd (h t)
+first-unique (later t h) (here k) = absurd (k t)
+first-unique (later t h) (later u k) = first-unique h k
+
+all-no-first : {l : List JudgedNode} {q : ℕ} → AllTyped l → FirstBad l q → ⊥
+all-no-first (allCons t al) (here h) = h t
+all-no-first (allCons t al) (later u h) = all-no-first al h
+
+is-eq : {A : Type 0} {a : A} {o : Result A} → Is a o → o ≡ fine a
+is-eq is = refl
+
+fine-view : {X : Type 0} {R : List JudgedNode} → View (λ (u : Unit {0}). X) R (fine tt) → X
+fine-view (vfine x al) = x
+
+bad-view : {X : Type 0} {R : List JudgedNode} {r : Refusal} {q : ℕ} → View (λ (u : Unit {0}). X) R (refuse r q) → (r ≡ TYPE) × FirstBad R q
+bad-view (vbad h) = (refl, h)
+
+view-bad : {X : Type 0} {R : List JudgedNode} {q : ℕ} {o : Result (Unit {0})} → View (λ (u : Unit {0}). X) R o → FirstBad R q → o ≡ refuse TYPE q
+view-bad (vfine x al) h = absurd (all-no-first al h)
+view-bad (vbad k) h = ap (λ q. refuse TYPE q) (first-unique k h)
+
+view-one : {X : Type 0} {R : List JudgedNode} {o : Result (Unit {0})} → View (λ (u : Unit {0}). X) R o → X ⊎ ((q : ℕ) × FirstBad R q)
+view-one (vfine x al) = inl x
+view-one (vbad {q = q} h) = inr (q, h)
+
+view-both : {X : Type 0} {R : List JudgedNode} {q : ℕ} {o : Result (Unit {0})} → View (λ (u : Unit {0}). X) R o → Is tt o → FirstBad R q → ⊥
+view-both (vfine x al) i h = all-no-first al h
+view-both (vbad k) i h = no-is i
+
+pub judge-accepts : (b : Block) → (judge b ≡ fine tt) ↔ Typable b
+judge-accepts b = ((λ e. fine-view (subst (λ o. View (λ u. Typable b) (nodes-block [] b) o) e (view-block b []))), (λ h. is-eq (complete-block b h)))
+
+pub judge-refuses : (b : Block) (r : Refusal) (q : ℕ) → (judge b ≡ refuse r q) ↔ ((r ≡ TYPE) × TypeRefused b q)
+judge-refuses b r q = (
+  (λ e. bad-view (subst (λ o. View (λ u. Typable b) (nodes-block [] b) o) e (view-block b []))),
+  (λ h. view-bad (view-block b []) (h .1) ∙ ap (λ r. refuse r q) (sym (h .0))),
+)
+
+pub one-verdict : (b : Block) →
+    (Typable b ⊎ ((q : ℕ) × TypeRefused b q)) × ((q : ℕ) → Typable b → TypeRefused b q → ⊥) × ((q q′ : ℕ) → TypeRefused b q → TypeRefused b q′ → q ≡ q′)
+one-verdict b = (view-one (view-block b []), (λ q t h. view-both (view-block b []) (complete-block b t) h), (λ q q′ h k. first-unique h k))

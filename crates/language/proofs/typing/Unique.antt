@@ -1,0 +1,149 @@
+-- The judge accepts what has a typing, and types are unique.
+use mathlib.Core.Path.{_≡_, refl, sym, subst}
+use Prim.Native.Nat.{ℕ}
+use mathlib.Core.Bool.{Bool, true, false}
+use mathlib.Core.List.{List, [], _∷_}
+use mathlib.Core.Option.{Option, none, some, Option·none-ne-some}
+use lib.Dec.{T}
+use Rattle.language.specs.Syntax.{Name, at, ArgP, Expr, num, name, if-expr, and, or, app, abs, Exprs, one-expr, more-exprs, ExprP, val, adr, Cmds, last, def-then, stat-then, Def, const, fun, fun-rec, var, proc, proc-rec, Stat, echo, set, if-stat, while, call, Block, block}
+use Rattle.language.specs.Names.{Op, Meaning, literal, operator, free, lookup, meaning, unless-nine, head-operator}
+use Rattle.language.specs.Types.{Ty, base, fn, Tys, BOOL, INT, typeOf, Par, ref, Entity, plain, procedure, Ctx, find, values, takes, result}
+use Rattle.language.specs.Typing.{Free, AllDeclarable, HasE, NUM, LITERAL, IDV, IDR, IF, AND, OR, PRIM, APP, ABS, HasEs, ONE, MORE, HasA, REF, VAL, HasAs, NO-ARGS, ARGS, HasB, BLOC, HasC, DECS, STATS, END, HasD, CONST, FUN, FUNREC, VAR, PROC, PROCREC, HasS, ECHO, SET, IFS, WHILE, CALL}
+use Rattle.language.specs.Order.{after-def}
+use Rattle.language.proofs.typing.Names.{head-typed}
+use Rattle.language.proofs.typing.Judge.{Result, fine, andThen, judged, only, passes, andb, same-type, is-free, is-base, read-type, name-type, judge-app, judge-params, judge-expr, judge-exprs, ref-type, call-pars, fits-ref, fits-call, as-ref, judge-arg, judge-args, judge-block, judge-cmds, judge-def, judge-stat}
+use Rattle.language.proofs.typing.SameType.{andb-in, same-type-refl, same-types-refl, same-pars-refl, free-in, base-in, declarable-in}
+
+-- a result that is there, and is a
+pub data Is {A : Type 0} (a : A) : Result A → Type 0 where
+  is : Is a (fine a)
+
+pub data IsO {A : Type 0} (a : A) : Option A → Type 0 where
+  isO : IsO a (some a)
+
+pub is-then : {A B : Type 0} {a : A} {b : B} {o : Result A} (k : A → Result B) → Is a o → Is b (k a) → Is b (andThen o k)
+unfolding andThen
+is-then k is h = h
+
+pub is-judged : {A : Type 0} {a : A} {o : Option A} (p : ℕ) → IsO a o → Is a (judged p o)
+unfolding judged
+is-judged p isO = is
+
+is-only : {A : Type 0} {a : A} {o : Option A} (b : Bool) → T b → IsO a o → IsO a (only b o)
+unfolding only
+is-only true t h = h
+is-only false t h = absurd t
+
+pub is-pass : (p : ℕ) (b : Bool) → T b → Is tt (passes p b)
+unfolding passes
+is-pass p b t = is-judged p (is-only b t isO)
+
+literal-in : {b : Bool} (m : Meaning) (o : Option Entity) → m ≡ literal b → IsO BOOL (name-type m o)
+literal-in {b} m o e = subst (λ m. IsO BOOL (name-type m o)) (sym e) isO
+
+-- a bound name reads as its value's type
+bound-in : {τ : Entity} {t : Ty} (m : Meaning) (o : Option Entity) → unless-nine m o ≡ some τ → IsO t (read-type (some τ)) →
+    IsO t (name-type m (unless-nine m o))
+bound-in (literal b) o e h = absurd (Option·none-ne-some _ e)
+bound-in (operator f) o e h = absurd (Option·none-ne-some _ e)
+bound-in {t = t} free o e h = subst (λ o. IsO t (read-type o)) (sym e) h
+
+pub complete-params : (ps : List ArgP) → AllDeclarable ps → Is tt (judge-params ps)
+unfolding judge-params
+complete-params [] h = is
+complete-params (a ∷ ps) h = is-then _ (is-pass _ _ (declarable-in a (h .0))) (complete-params ps (h .1))
+
+prim-in : (p : ℕ) (f : Result Ty) {es : Result Tys} {o : Op} (g : Option Op) → g ≡ some o → Is (takes o) es → Is (base (result o)) (judge-app p g f es)
+prim-in p f {es} {o} g e h =
+    subst (λ g. Is (base (result o)) (judge-app p g f es)) (sym e) (is-then _ h (is-judged _ (is-only _ (same-types-refl (takes o)) isO)))
+
+app-in : (p : ℕ) {ts : Tys} {t : Ty} {f : Result Ty} {es : Result Tys} (g : Option Op) → g ≡ none → Is (fn ts t) f → Is ts es → Is t (judge-app p g f es)
+app-in p {ts} {t} {f} {es} g e h k =
+    subst (λ g. Is t (judge-app p g f es)) (sym e) (is-then _ h (is-then _ k (is-judged _ (is-only _ (same-types-refl ts) isO))))
+
+mutual
+  unfolding judge-expr
+
+  pub complete-expr : (e : Expr) {Γ : Ctx} {t : Ty} → HasE Γ e t → Is t (judge-expr Γ e)
+  complete-expr (num p n) NUM = is
+  complete-expr (name (at p x)) {Γ} (LITERAL e) = is-judged _ (literal-in (meaning x) (find Γ x) e)
+  complete-expr (name (at p x)) {Γ} (IDV e) = is-judged _ (bound-in (meaning x) (lookup Γ x) e isO)
+  complete-expr (name (at p x)) {Γ} (IDR e) = is-judged _ (bound-in (meaning x) (lookup Γ x) e isO)
+  complete-expr (if-expr p a b c) (IF {t = t} da db dc) =
+      is-then _ (complete-expr a da) (is-then _ (complete-expr b db) (is-then _ (complete-expr c dc) (is-judged _ (is-only _ (same-type-refl BOOL) (is-only _ (same-type-refl t) isO)))))
+  complete-expr (and p a b) (AND da db) =
+      is-then _ (complete-expr a da) (is-then _ (complete-expr b db) (is-judged _ (is-only _ (same-type-refl BOOL) (is-only _ (same-type-refl BOOL) isO))))
+  complete-expr (or p a b) (OR da db) =
+      is-then _ (complete-expr a da) (is-then _ (complete-expr b db) (is-judged _ (is-only _ (same-type-refl BOOL) (is-only _ (same-type-refl BOOL) isO))))
+  complete-expr (app p f es) {Γ} (PRIM e ds) = prim-in p (judge-expr Γ f) (head-operator f) e (complete-exprs es ds)
+  complete-expr (app p f es) (APP d ds) = app-in p (head-operator f) (head-typed f d) (complete-expr f d) (complete-exprs es ds)
+  complete-expr (abs p ps e) (ABS g d) = is-then _ (complete-params (values ps) g) (is-then _ (complete-expr e d) (is-judged _ isO))
+
+  pub complete-exprs : (es : Exprs) {Γ : Ctx} {ts : Tys} → HasEs Γ es ts → Is ts (judge-exprs Γ es)
+  complete-exprs (one-expr e) (ONE d) = is-then _ (complete-expr e d) is
+  complete-exprs (more-exprs e es) (MORE d ds) = is-then _ (complete-expr e d) (is-then _ (complete-exprs es ds) is)
+
+-- types are unique
+is-unique : {A : Type 0} {a b : A} {o : Result A} → Is a o → Is b o → a ≡ b
+is-unique is is = refl
+
+pub unique-types : (Γ : Ctx) (e : Expr) (t u : Ty) → HasE Γ e t → HasE Γ e u → t ≡ u
+unique-types Γ e t u h k = is-unique (complete-expr e h) (complete-expr e k)
+
+ref-in : {o : Option Entity} {t : Ty} → o ≡ some (plain (ref t)) → IsO (ref t) (as-ref (ref-type o))
+ref-in {t = t} e = subst (λ o. IsO (ref t) (as-ref (ref-type o))) (sym e) isO
+
+pub complete-arg : (a : ExprP) {Γ : Ctx} {q : Par} → HasA Γ a q → Is q (judge-arg Γ a)
+unfolding judge-arg
+complete-arg (val e) (VAL h) = is-then _ (complete-expr e h) is
+complete-arg (adr p (at q x)) (REF e) = is-judged _ (ref-in e)
+
+pub complete-args : (as′ : List ExprP) {Γ : Ctx} {qs : List Par} → HasAs Γ as′ qs → Is qs (judge-args Γ as′)
+unfolding judge-args
+complete-args [] NO-ARGS = is
+complete-args (a ∷ as′) (ARGS h hs) = is-then _ (complete-arg a h) (is-then _ (complete-args as′ hs) is)
+
+set-in : {o : Option Entity} {t : Ty} → o ≡ some (plain (ref t)) → T (fits-ref (ref-type o) t)
+set-in {t = t} e = subst (λ o. T (fits-ref (ref-type o) t)) (sym e) (same-type-refl t)
+
+call-in : {o : Option Entity} {qs : List Par} → o ≡ some (procedure qs) → T (fits-call (call-pars o) qs)
+call-in {qs = qs} e = subst (λ o. T (fits-call (call-pars o) qs)) (sym e) (same-pars-refl qs)
+
+def-ctx : (d : Def) {Γ Δ : Ctx} → HasD Γ d Δ → Δ ≡ after-def d Γ
+def-ctx (const p (at q x) t e) (CONST f h) = refl
+def-ctx (fun p (at q x) t ps e) (FUN f g h) = refl
+def-ctx (fun-rec p (at q x) t ps e) (FUNREC f g h) = refl
+def-ctx (var p (at q x) t) (VAR f i) = refl
+def-ctx (proc p (at q x) ps b) (PROC f g h) = refl
+def-ctx (proc-rec p (at q x) ps b) (PROCREC f g h) = refl
+
+-- a definition of a free name and of its type
+defines : (p : ℕ) (x : Name) (t : Ty) → Free x → Is tt (passes p (andb (is-free (meaning x)) (same-type t t)))
+defines p x t f = is-pass _ _ (andb-in (is-free (meaning x)) (same-type t t) (free-in x f) (same-type-refl t))
+
+mutual
+  unfolding judge-cmds
+
+  pub complete-block : (b : Block) {Γ : Ctx} → HasB Γ b → Is tt (judge-block Γ b)
+  complete-block (block p cs) (BLOC h) = complete-cmds cs h
+
+  pub complete-cmds : (cs : Cmds) {Γ : Ctx} → HasC Γ cs → Is tt (judge-cmds Γ cs)
+  complete-cmds (def-then d cs) (DECS h hs) = is-then _ (complete-def d h) (complete-cmds cs (subst (λ Δ. HasC Δ cs) (def-ctx d h) hs))
+  complete-cmds (stat-then c cs) (STATS h hs) = is-then _ (complete-stat c h) (complete-cmds cs hs)
+  complete-cmds (last c) (END h) = complete-stat c h
+
+  pub complete-def : (d : Def) {Γ Δ : Ctx} → HasD Γ d Δ → Is tt (judge-def Γ d)
+  complete-def (const p (at q x) t e) (CONST f h) = is-then _ (complete-expr e h) (defines p x (typeOf t) f)
+  complete-def (fun p (at q x) t ps e) (FUN f g h) = is-then _ (complete-params (values ps) g) (is-then _ (complete-expr e h) (defines p x (typeOf t) f))
+  complete-def (fun-rec p (at q x) t ps e) (FUNREC f g h) = is-then _ (complete-params (values ps) g) (is-then _ (complete-expr e h) (defines p x (typeOf t) f))
+  complete-def (var p (at q x) t) (VAR f i) = is-pass _ _ (andb-in (is-free (meaning x)) (is-base (typeOf t)) (free-in x f) (base-in (typeOf t) i))
+  complete-def (proc p (at q x) ps b) (PROC f g h) = is-then _ (complete-params ps g) (is-then _ (complete-block b h) (is-pass _ _ (free-in x f)))
+  complete-def (proc-rec p (at q x) ps b) (PROCREC f g h) = is-then _ (complete-params ps g) (is-then _ (complete-block b h) (is-pass _ _ (free-in x f)))
+
+  pub complete-stat : (c : Stat) {Γ : Ctx} → HasS Γ c → Is tt (judge-stat Γ c)
+  complete-stat (echo p e) (ECHO h) = is-then _ (complete-expr e h) (is-pass _ _ (same-type-refl INT))
+  complete-stat (set p (at q x) e) (SET f h) = is-then _ (complete-expr e h) (is-pass _ _ (set-in f))
+  complete-stat (if-stat p e a b) (IFS h k l) =
+      is-then _ (complete-expr e h) (is-then _ (complete-block a k) (is-then _ (complete-block b l) (is-pass _ _ (same-type-refl BOOL))))
+  complete-stat (while p e b) (WHILE h k) = is-then _ (complete-expr e h) (is-then _ (complete-block b k) (is-pass _ _ (same-type-refl BOOL)))
+  complete-stat (call p (at q x) as′) (CALL f h) = is-then _ (complete-args as′ h) (is-pass _ _ (call-in f))

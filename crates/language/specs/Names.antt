@@ -1,0 +1,56 @@
+-- What a name is by itself. The nine names of the language are ordinary names (000, section 3.1): one function tells them from the others.
+use mathlib.Core.Bool.{Bool, true, false, cond}
+use mathlib.Core.List.{List, [], _∷_}
+use mathlib.Core.Option.{Option, none, some}
+use Rattle.language.specs.Syntax.{Name, at, Expr, num, name, if-expr, and, or, app, abs}
+use Rattle.language.specs.Bytes.{bytesOf, same-bytes}
+
+-- the seven operators
+pub data Op : Type 0 where
+  not eq lt add sub mul div : Op
+
+-- a name is a literal, an operator, or free to be bound
+pub data Meaning : Type 0 where
+  literal : Bool → Meaning
+  operator : Op → Meaning
+  free : Meaning
+
+-- what stands beside a name in a list of names: the first of equal ones
+abbrev pub lookup : {A : Type 0} → List (Name × A) → Name → Option A
+lookup [] x = none
+lookup (d ∷ ds) x = cond (same-bytes (d .0) x) (some (d .1)) (lookup ds x)
+
+-- the nine names: true false not eq lt add sub mul div
+abbrev pub nine-names : List (Name × Meaning)
+nine-names =
+    (bytesOf "true", literal true) ∷ (bytesOf "false", literal false) ∷ (bytesOf "not", operator not) ∷ (bytesOf "eq", operator eq) ∷ (bytesOf "lt", operator lt) ∷
+    (bytesOf "add", operator add) ∷ (bytesOf "sub", operator sub) ∷ (bytesOf "mul", operator mul) ∷ (bytesOf "div", operator div) ∷ []
+
+abbrev pub or-free : Option Meaning → Meaning
+or-free none = free
+or-free (some m) = m
+
+-- what a name is: one of the nine as the list says, any other is free
+unfoldable pub meaning : Name → Meaning
+meaning x = or-free (lookup nine-names x)
+
+-- what a name stands for where names are bound: the nine mean themselves everywhere and stand for nothing that is bound
+abbrev pub unless-nine : {A : Type 0} → Meaning → Option A → Option A
+unless-nine (literal b) o = none
+unless-nine (operator f) o = none
+unless-nine free o = o
+
+abbrev pub operator-of : Meaning → Option Op
+operator-of (literal b) = none
+operator-of (operator o) = some o
+operator-of free = none
+
+-- the operator that stands as the head of an application, if one does
+abbrev pub head-operator : Expr → Option Op
+head-operator (num p n) = none
+head-operator (name (at p x)) = operator-of (meaning x)
+head-operator (if-expr p a b c) = none
+head-operator (and p a b) = none
+head-operator (or p a b) = none
+head-operator (app p f es) = none
+head-operator (abs p ps e) = none

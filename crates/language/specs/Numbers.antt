@@ -1,0 +1,78 @@
+-- Numbers: their range, and what the operators compute (000's π₁ and π₂).
+use Prim.Native.Nat.{zero, suc}
+use mathlib.Core.Bool.{Bool, true, false, cond}
+use mathlib.Core.List.{List, [], _∷_}
+use mathlib.Core.Option.{Option, none, some}
+use lib.IntN.{ℤ, pos, negsuc, _+ℤ_, _-ℤ_, _*ℤ_}
+use lib.Signed.{ltZ, leZ, quotZ}
+use Rattle.language.specs.Answers.{ErrorStop, RANGE, ZERO}
+use Rattle.language.specs.Names.{Op, not, eq, lt, add, sub, mul, div}
+
+-- the least and the greatest number
+abbrev pub least : ℤ
+least = negsuc 2147483647
+
+abbrev pub greatest : ℤ
+greatest = pos 2147483647
+
+abbrev pub in-range : ℤ → Bool
+in-range z = cond (leZ least z) (leZ z greatest) false
+
+-- div rounds toward zero
+abbrev pub quotient : ℤ → ℤ → ℤ
+quotient a b = quotZ a b
+
+-- a number, or why there is none
+pub data Computed : Type 0 where
+  amount : ℤ → Computed
+  fails : ErrorStop → Computed
+
+-- a result outside the range is RANGE
+abbrev pub ranged : ℤ → Computed
+ranged z = cond (in-range z) (amount z) (fails RANGE)
+
+abbrev pub same-number : ℤ → ℤ → Bool
+same-number a b = cond (leZ a b) (leZ b a) false
+
+-- true is 1, false is 0
+abbrev pub bit : Bool → ℤ
+bit true = pos 1
+bit false = pos 0
+
+abbrev pub as-bit : ℤ → Option Bool
+as-bit (pos zero) = some false
+as-bit (pos (suc zero)) = some true
+as-bit (pos (suc (suc n))) = none
+as-bit (negsuc n) = none
+
+abbrev pub negated : Option Bool → Option Computed
+negated none = none
+negated (some true) = some (amount (bit false))
+negated (some false) = some (amount (bit true))
+
+-- π₁: not, of 0 or 1
+abbrev pub op1 : Op → ℤ → Option Computed
+op1 not a = negated (as-bit a)
+op1 eq a = none
+op1 lt a = none
+op1 add a = none
+op1 sub a = none
+op1 mul a = none
+op1 div a = none
+
+-- π₂: div by 0 is ZERO
+abbrev pub op2 : Op → ℤ → ℤ → Option Computed
+op2 not a b = none
+op2 eq a b = some (amount (bit (same-number a b)))
+op2 lt a b = some (amount (bit (ltZ a b)))
+op2 add a b = some (ranged (a +ℤ b))
+op2 sub a b = some (ranged (a -ℤ b))
+op2 mul a b = some (ranged (a *ℤ b))
+op2 div a b = some (cond (same-number b (pos 0)) (fails ZERO) (ranged (quotient a b)))
+
+-- an operator applied to numbers: nothing where no rule fits
+abbrev pub compute : Op → List ℤ → Option Computed
+compute o [] = none
+compute o (a ∷ []) = op1 o a
+compute o (a ∷ b ∷ []) = op2 o a b
+compute o (a ∷ b ∷ c ∷ l) = none

@@ -1,0 +1,110 @@
+-- Where TYPE is reported (document 01): the first node, in the order in which nodes end, that cannot be typed.
+-- Children end before their parents, so at the first such node every part is typed and the node's own rule cannot be met.
+use Prim.Native.Nat.{ℕ}
+use mathlib.Core.List.{List, [], _∷_, _++_}
+use mathlib.Core.Option.{Option, none, some}
+use Rattle.language.specs.Syntax.{Ident, at, ArgP, Expr, num, name, if-expr, and, or, app, abs, Exprs, one-expr, more-exprs, ExprP, val, adr, Cmds, last, def-then, stat-then, Def, const, fun, fun-rec, var, proc, proc-rec, Stat, echo, set, if-stat, while, call, Block, block}
+use Rattle.language.specs.Places.{place-expr, place-param, place-def, place-stat}
+use Rattle.language.specs.Names.{Op, head-operator}
+use Rattle.language.specs.Types.{Ty, typeOf, Par, value, ref, plain, procedure, Ctx, extend, values, pars, declared, fun-type}
+use Rattle.language.specs.Typing.{Declarable, HasE, HasA, HasD, HasS}
+
+-- a node that a rule judges, with the names that it may use. Blocks, types, names after a key word and operator heads have no rule of their own
+pub data JudgedNode : Type 0 where
+  expr-node : Ctx → Expr → JudgedNode
+  adr-node : Ctx → ℕ → Ident → JudgedNode
+  param-node : ArgP → JudgedNode
+  def-node : Ctx → Def → JudgedNode
+  stat-node : Ctx → Stat → JudgedNode
+
+abbrev pub place-node : JudgedNode → ℕ
+place-node (expr-node Γ e) = place-expr e
+place-node (adr-node Γ p x) = p
+place-node (param-node a) = place-param a
+place-node (def-node Γ d) = place-def d
+place-node (stat-node Γ c) = place-stat c
+
+-- a node that can be typed
+abbrev pub Typed : JudgedNode → Type 0
+Typed (expr-node Γ e) = (t : Ty) × HasE Γ e t
+Typed (adr-node Γ p x) = (q : Par) × HasA Γ (adr p x) q
+Typed (param-node a) = Declarable a
+Typed (def-node Γ d) = (Δ : Ctx) × HasD Γ d Δ
+Typed (stat-node Γ c) = HasS Γ c
+
+-- the names after a definition
+abbrev pub after-def : Def → Ctx → Ctx
+after-def (const p (at q x) t e) Γ = (x, plain (value (typeOf t))) ∷ Γ
+after-def (fun p (at q x) t ps e) Γ = (x, plain (value (fun-type ps t))) ∷ Γ
+after-def (fun-rec p (at q x) t ps e) Γ = (x, plain (value (fun-type ps t))) ∷ Γ
+after-def (var p (at q x) t) Γ = (x, plain (ref (typeOf t))) ∷ Γ
+after-def (proc p (at q x) ps b) Γ = (x, procedure (pars ps)) ∷ Γ
+after-def (proc-rec p (at q x) ps b) Γ = (x, procedure (pars ps)) ∷ Γ
+
+-- the nodes in the order in which they end; parameters before the body
+abbrev pub nodes-params : List ArgP → List JudgedNode
+nodes-params [] = []
+nodes-params (a ∷ ps) = param-node a ∷ nodes-params ps
+
+-- an operator's name at the head is not judged
+abbrev pub nodes-head : Option Op → List JudgedNode → List JudgedNode
+nodes-head none l = l
+nodes-head (some o) l = []
+
+unfoldable mutual
+  pub nodes-expr : Ctx → Expr → List JudgedNode
+  nodes-expr Γ (num p n) = expr-node Γ (num p n) ∷ []
+  nodes-expr Γ (name x) = expr-node Γ (name x) ∷ []
+  nodes-expr Γ (if-expr p a b c) = nodes-expr Γ a ++ (nodes-expr Γ b ++ (nodes-expr Γ c ++ (expr-node Γ (if-expr p a b c) ∷ [])))
+  nodes-expr Γ (and p a b) = nodes-expr Γ a ++ (nodes-expr Γ b ++ (expr-node Γ (and p a b) ∷ []))
+  nodes-expr Γ (or p a b) = nodes-expr Γ a ++ (nodes-expr Γ b ++ (expr-node Γ (or p a b) ∷ []))
+  nodes-expr Γ (app p f es) = nodes-head (head-operator f) (nodes-expr Γ f) ++ (nodes-exprs Γ es ++ (expr-node Γ (app p f es) ∷ []))
+  nodes-expr Γ (abs p ps e) = nodes-params (values ps) ++ (nodes-expr (extend (declared (values ps)) Γ) e ++ (expr-node Γ (abs p ps e) ∷ []))
+
+  pub nodes-exprs : Ctx → Exprs → List JudgedNode
+  nodes-exprs Γ (one-expr e) = nodes-expr Γ e
+  nodes-exprs Γ (more-exprs e es) = nodes-expr Γ e ++ nodes-exprs Γ es
+
+abbrev pub nodes-arg : Ctx → ExprP → List JudgedNode
+nodes-arg Γ (val e) = nodes-expr Γ e
+nodes-arg Γ (adr p x) = adr-node Γ p x ∷ []
+
+abbrev pub nodes-args : Ctx → List ExprP → List JudgedNode
+nodes-args Γ [] = []
+nodes-args Γ (a ∷ as′) = nodes-arg Γ a ++ nodes-args Γ as′
+
+unfoldable mutual
+  pub nodes-block : Ctx → Block → List JudgedNode
+  nodes-block Γ (block p cs) = nodes-cmds Γ cs
+
+  pub nodes-cmds : Ctx → Cmds → List JudgedNode
+  nodes-cmds Γ (def-then d cs) = nodes-def Γ d ++ nodes-cmds (after-def d Γ) cs
+  nodes-cmds Γ (stat-then c cs) = nodes-stat Γ c ++ nodes-cmds Γ cs
+  nodes-cmds Γ (last c) = nodes-stat Γ c
+
+  pub nodes-def : Ctx → Def → List JudgedNode
+  nodes-def Γ (const p x t e) = nodes-expr Γ e ++ (def-node Γ (const p x t e) ∷ [])
+  nodes-def Γ (fun p x t ps e) = nodes-params (values ps) ++ (nodes-expr (extend (declared (values ps)) Γ) e ++ (def-node Γ (fun p x t ps e) ∷ []))
+  nodes-def Γ (fun-rec p (at q x) t ps e) =
+      nodes-params (values ps) ++
+      (nodes-expr ((x, plain (value (fun-type ps t))) ∷ extend (declared (values ps)) Γ) e ++ (def-node Γ (fun-rec p (at q x) t ps e) ∷ []))
+  nodes-def Γ (var p x t) = def-node Γ (var p x t) ∷ []
+  nodes-def Γ (proc p x ps b) = nodes-params ps ++ (nodes-block (extend (declared ps) Γ) b ++ (def-node Γ (proc p x ps b) ∷ []))
+  nodes-def Γ (proc-rec p (at q x) ps b) =
+      nodes-params ps ++ (nodes-block ((x, procedure (pars ps)) ∷ extend (declared ps) Γ) b ++ (def-node Γ (proc-rec p (at q x) ps b) ∷ []))
+
+  pub nodes-stat : Ctx → Stat → List JudgedNode
+  nodes-stat Γ (echo p e) = nodes-expr Γ e ++ (stat-node Γ (echo p e) ∷ [])
+  nodes-stat Γ (set p x e) = nodes-expr Γ e ++ (stat-node Γ (set p x e) ∷ [])
+  nodes-stat Γ (if-stat p e a b) = nodes-expr Γ e ++ (nodes-block Γ a ++ (nodes-block Γ b ++ (stat-node Γ (if-stat p e a b) ∷ [])))
+  nodes-stat Γ (while p e b) = nodes-expr Γ e ++ (nodes-block Γ b ++ (stat-node Γ (while p e b) ∷ []))
+  nodes-stat Γ (call p x as′) = nodes-args Γ as′ ++ (stat-node Γ (call p x as′) ∷ [])
+
+-- the first of the nodes that cannot be typed stands at q
+pub data FirstBad : List JudgedNode → ℕ → Type 0 where
+  here : {n : JudgedNode} {l : List JudgedNode} → ¬ Typed n → FirstBad (n ∷ l) (place-node n)
+  later : {n : JudgedNode} {l : List JudgedNode} {q : ℕ} → Typed n → FirstBad l q → FirstBad (n ∷ l) q
+
+-- a program is refused with TYPE at q
+abbrev pub TypeRefused : Block → ℕ → Type 0
+TypeRefused b q = FirstBad (nodes-block [] b) q

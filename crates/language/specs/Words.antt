@@ -1,0 +1,133 @@
+-- From bytes to words, document 01.
+use mathlib.Core.Bool.{Bool, false, _&&_, _||_, cond}
+use mathlib.Core.List.{List, [], _∷_}
+use mathlib.Core.Option.{Option, none, some}
+use Prim.Native.Nat.{ℕ, zero, suc, _+_, _-_, _*_}
+use Prim.Native.String.{String}
+use lib.Dec.{leb, eqb}
+use lib.IntN.{ℤ, pos, negℤ}
+use lib.ListN.{length, drop}
+use Rattle.language.specs.Syntax.{Name, Ident, at}
+use Rattle.language.specs.Bytes.{bytesOf, same-bytes}
+use Rattle.language.specs.Places.{place-ident}
+use Rattle.language.specs.Answers.{Refusal, BYTE, NUMBER, Result, fine, refuse}
+use Rattle.language.specs.Numbers.{in-range}
+
+-- The symbols and the key words.
+pub data Mark : Type 0 where
+  kLbr kRbr kLpar kRpar kSemi kColon kComma kStar kArrow : Mark
+  kCONST kFUN kREC kVAR kPROC kECHO kSET kIF kWHILE kCALL kif kand kor kbool kint kvar kadr : Mark
+
+-- A word of a text, with the place of its first byte.
+pub data Word : Type 0 where
+  mark : Mark → (place : ℕ) → Word
+  number : (place : ℕ) → ℤ → Word
+  named : Ident → Word
+
+abbrev pub place-word : Word → ℕ
+place-word (mark m p) = p
+place-word (number p z) = p
+place-word (named x) = place-ident x
+
+-- Separators, letters, digits.
+abbrev pub oneOf : List ℕ → ℕ → Bool
+oneOf [] b = false
+oneOf (x ∷ s) b = eqb b x || oneOf s b
+
+abbrev pub isSep : ℕ → Bool
+isSep b = oneOf (bytesOf " \t\n\r") b
+
+abbrev pub isLetter : ℕ → Bool
+isLetter b = (leb 65 b && leb b 90) || (leb 97 b && leb b 122)
+
+abbrev pub isDigit : ℕ → Bool
+isDigit b = leb 48 b && leb b 57
+
+abbrev pub isPlain : ℕ → Bool
+isPlain b = isLetter b || isDigit b
+
+-- The longest front whose bytes pass a test.
+abbrev pub stretch : (ℕ → Bool) → List ℕ → List ℕ
+stretch p [] = []
+stretch p (b ∷ s) = cond (p b) (b ∷ stretch p s) []
+
+-- What a spelling means; the first line that has it counts.
+pub data Spelling : Type 0 where
+  means : String → Mark → Spelling
+
+abbrev pub symbols : List Spelling
+symbols =
+    means "[" kLbr ∷ means "]" kRbr ∷ means "(" kLpar ∷ means ")" kRpar ∷ means ";" kSemi ∷ means ":" kColon ∷ means "," kComma ∷ means "*" kStar ∷ []
+
+abbrev pub keyWords : List Spelling
+keyWords =
+    means "CONST" kCONST ∷ means "FUN" kFUN ∷ means "REC" kREC ∷ means "VAR" kVAR ∷ means "PROC" kPROC
+    ∷ means "ECHO" kECHO ∷ means "SET" kSET ∷ means "IF" kIF ∷ means "WHILE" kWHILE ∷ means "CALL" kCALL
+    ∷ means "if" kif ∷ means "and" kand ∷ means "or" kor ∷ means "bool" kbool ∷ means "int" kint ∷ means "var" kvar ∷ means "adr" kadr ∷ []
+
+abbrev pub mark-of : List Spelling → List ℕ → Option Mark
+mark-of [] w = none
+mark-of (means t m ∷ ms) w = cond (same-bytes (bytesOf t) w) (some m) (mark-of ms w)
+
+-- What begins at the front of some bytes: a separator; a word, and how many bytes it has after its first; or BYTE or NUMBER.
+pub data Front : Type 0 where
+  gap : Front
+  word : Word → (more : ℕ) → Front
+  bad : Refusal → Front
+
+-- Letters and digits, from a letter on: a key word or a name.
+abbrev pub spelled : ℕ → List ℕ → Front
+spelled i w = elim (mark-of keyWords w) [ none ↦ word (named (at i w)) (length w - 1) | some m ↦ word (mark m i) (length w - 1) ]
+
+-- The number that digits write, after those that write n.
+abbrev pub decimal : ℕ → List ℕ → ℕ
+decimal n [] = n
+decimal n (b ∷ s) = decimal (n * 10 + (b - 48)) s
+
+-- a written number must be in the range
+abbrev pub numeral : ℕ → ℤ → ℕ → Front
+numeral i z more = cond (in-range z) (word (number i z) more) (bad NUMBER)
+
+-- After a `-`: the arrow, a number, or a byte in no word.
+abbrev pub minus : ℕ → List ℕ → Front
+minus i [] = bad BYTE
+minus i (b ∷ s) =
+    cond (eqb b 62) (word (mark kArrow i) 1)
+    (cond (isDigit b) (numeral i (negℤ (pos (decimal 0 (stretch isDigit (b ∷ s))))) (length (stretch isDigit (b ∷ s)))) (bad BYTE))
+
+abbrev pub symbol : ℕ → ℕ → Front
+symbol i b = elim (mark-of symbols (b ∷ [])) [ none ↦ bad BYTE | some m ↦ word (mark m i) 0 ]
+
+-- What begins with the byte b at place i, before the bytes s.
+abbrev pub front : ℕ → ℕ → List ℕ → Front
+front i b s =
+    cond (isSep b) gap
+    (cond (isLetter b) (spelled i (stretch isPlain (b ∷ s)))
+    (cond (isDigit b) (numeral i (pos (decimal 0 (stretch isDigit (b ∷ s)))) (length (stretch isDigit s)))
+    (cond (eqb b 45) (minus i s) (symbol i b))))
+
+abbrev pub before : Word → Result (List Word) → Result (List Word)
+before w (fine ws) = fine (w ∷ ws)
+before w (refuse r p) = refuse r p
+
+-- The words of a text, or its first BYTE or NUMBER: those that begin in `s`, which stands at place `i`, after `k` bytes of the word before it.
+unfoldable pub wordsFrom : List ℕ → (k i : ℕ) → (Result (List Word))
+wordsFrom [] k i = fine []
+wordsFrom (b ∷ s) (suc k) i = wordsFrom s k (i + 1)
+wordsFrom (b ∷ s) zero i =
+    elim (front i b s) [ gap ↦ wordsFrom s 0 (i + 1) | word w more ↦ before w (wordsFrom s more (i + 1)) | bad r ↦ refuse r i ]
+
+abbrev pub wordsOf : List ℕ → (Result (List Word))
+wordsOf s = wordsFrom s 0 0
+
+-- At most so many words; else 6 TOKENS, at the next.
+abbrev pub most : ℕ
+most = 4096
+
+-- NAME, for the report desk: the longest stretch of letters and digits from a place, if it starts with a letter.
+abbrev pub nameFrom : List ℕ → Name
+nameFrom [] = []
+nameFrom (b ∷ s) = cond (isLetter b) (stretch isPlain (b ∷ s)) []
+
+abbrev pub nameAt : List ℕ → ℕ → Name
+nameAt s p = nameFrom (drop p s)

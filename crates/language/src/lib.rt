@@ -1,0 +1,1 @@
+// The language: what is believed stands in specs/, its theorems in proofs/.
