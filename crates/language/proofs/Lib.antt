@@ -1,3 +1,4 @@
 pub mod reading
 pub mod typing
 pub mod running
+pub mod texts

@@ -15,3 +15,5 @@ pub mod Order
 pub mod Limits
 pub mod Rules
 pub mod Outcome
+pub mod Promises
+pub mod Desk

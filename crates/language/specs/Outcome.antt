@@ -6,9 +6,7 @@ use mathlib.Core.Option.{Option, none, some}
 use lib.IntN.{ℤ}
 use lib.ListN.{length}
 use Rattle.language.specs.Syntax.{Block}
-use Rattle.language.specs.Answers.{Refusal, TYPE, FUEL, DEPTH, CELLS, BINDINGS, OUTPUT, limit, error, Answer, done, refused, stopped}
-use Rattle.language.specs.Typing.{Typable}
-use Rattle.language.specs.Order.{TypeRefused}
+use Rattle.language.specs.Answers.{Refusal, FUEL, DEPTH, CELLS, BINDINGS, OUTPUT, limit, error, Answer, done, refused, stopped, Result, fine, refuse}
 use Rattle.language.specs.Limits.{Limits}
 use Rattle.language.specs.Rules.{State, stop, no-rule, Outcome, ok, halt, run}
 
@@ -71,12 +69,7 @@ UsedUp L (halt no-rule p s) = Unit {0}
 abbrev pub refusal-report : Refusal → ℕ → Report
 refusal-report r q = record { end = some (refused r q); units = 0; bindings = 0; cells = 0; numbers = [] }
 
--- what RUN answers for a program's tree: what its run reports if it is typed, else TYPE at the first node that cannot be typed
-pub data RunAnswer (L : Limits) (b : Block) : Report → Type 0 where
-  runs : Typable b → RunAnswer L b (report (run L b))
-  type-refused : {q : ℕ} → TypeRefused b q → RunAnswer L b (refusal-report TYPE q)
-
--- what CHECK answers for a program's tree
-pub data CheckAnswer (b : Block) : Answer → Type 0 where
-  accepted : Typable b → CheckAnswer b done
-  type-refused-check : {q : ℕ} → TypeRefused b q → CheckAnswer b (refused TYPE q)
+-- what a run reports of a text's verdict: its run if it has a tree, else the refusal
+abbrev pub report-of : Limits → Result Block → Report
+report-of L (fine b) = report (run L b)
+report-of L (refuse r p) = refusal-report r p

@@ -6,17 +6,10 @@ use mathlib.Core.List.{List, [], _∷_}
 use mathlib.Core.Option.{Option, none, some}
 use Rattle.language.specs.Syntax.{at, ArgP, val-arg, var-arg, Expr, num, name, if-expr, and, or, app, abs, Exprs, one-expr, more-exprs, ExprP, val, adr, Cmds, last, def-then, stat-then, Def, const, fun, fun-rec, var, proc, proc-rec, Stat, echo, set, if-stat, while, call, Block, block}
 use Rattle.language.specs.Places.{place-param}
-use Rattle.language.specs.Answers.{Refusal, TYPE}
+use Rattle.language.specs.Answers.{TYPE, Result, fine, refuse}
 use Rattle.language.specs.Names.{Op, Meaning, literal, operator, free, meaning, head-operator}
 use Rattle.language.specs.Types.{Base, boolean, integer, Ty, base, fn, Tys, tnil, tcons, BOOL, INT, typeOf, Par, value, ref, Entity, plain, procedure, Ctx, find, extend, values, pars, declared, arg-types, fun-type, takes, result}
 use Rattle.language.specs.Order.{after-def}
-use Rattle.language.specs.Limits.{Limits}
-use Rattle.language.specs.Rules.{run}
-use Rattle.language.specs.Outcome.{Report, report, refusal-report}
-
-pub data Result (A : Type 0) : Type 0 where
-  fine : A → Result A
-  refuse : Refusal → (place : ℕ) → Result A
 
 module _ {A B : Type 0} where
   unfoldable pub andThen : Result A → (A → Result B) → Result B
@@ -196,11 +189,3 @@ unfoldable mutual
 -- a program, judged from no names
 abbrev pub judge : Block → Result (Unit {0})
 judge b = judge-block [] b
-
--- the report after a verdict
-abbrev pub report-after : Limits → Block → Result (Unit {0}) → Report
-report-after L b (fine u) = report (run L b)
-report-after L b (refuse r q) = refusal-report r q
-
-abbrev pub gate : Limits → Block → Report
-gate L b = report-after L b (judge b)

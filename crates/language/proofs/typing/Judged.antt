@@ -8,12 +8,12 @@ use mathlib.Core.Option.{Option, none, some}
 use lib.Dec.{T}
 use Rattle.language.specs.Syntax.{Name, at, ArgP, Expr, num, name, if-expr, and, or, app, abs, Exprs, one-expr, more-exprs, ExprP, val, adr, Cmds, last, def-then, stat-then, Def, const, fun, fun-rec, var, proc, proc-rec, Stat, echo, set, if-stat, while, call, Block, block}
 use Rattle.language.specs.Places.{place-expr, place-param}
-use Rattle.language.specs.Answers.{Refusal, TYPE}
+use Rattle.language.specs.Answers.{Refusal, TYPE, Result, fine, refuse}
 use Rattle.language.specs.Names.{Op, Meaning, literal, operator, free, meaning, head-operator}
 use Rattle.language.specs.Types.{Ty, base, fn, Tys, tnil, tcons, BOOL, INT, typeOf, Par, value, ref, Entity, plain, procedure, Ctx, find, extend, values, declared, takes}
 use Rattle.language.specs.Typing.{Free, Declarable, AllDeclarable, HasE, NUM, LITERAL, IDV, IDR, IF, AND, OR, PRIM, APP, ABS, HasEs, ONE, MORE, HasA, REF, VAL, HasAs, NO-ARGS, ARGS, HasB, BLOC, HasC, DECS, STATS, END, HasD, CONST, FUN, FUNREC, VAR, PROC, PROCREC, HasS, ECHO, SET, IFS, WHILE, CALL, Typable}
 use Rattle.language.specs.Order.{JudgedNode, expr-node, adr-node, param-node, def-node, stat-node, place-node, Typed, after-def, nodes-params, nodes-head, nodes-expr, nodes-exprs, nodes-arg, nodes-args, nodes-block, nodes-cmds, nodes-def, nodes-stat, FirstBad, here, later, TypeRefused}
-use Rattle.language.proofs.typing.Judge.{Result, fine, refuse, andThen, judged, only, passes, andb, same-type, same-types, is-free, is-base, name-type, if-type, bools-type, prim-type, app-type, judge-app, judge-params, judge-expr, judge-exprs, ref-type, call-pars, fits-ref, fits-call, as-ref, judge-arg, judge-args, judge-block, judge-cmds, judge-def, judge-stat, judge}
+use Rattle.language.proofs.typing.Judge.{andThen, judged, only, passes, andb, same-type, same-types, is-free, is-base, name-type, if-type, bools-type, prim-type, app-type, judge-app, judge-params, judge-expr, judge-exprs, ref-type, call-pars, fits-ref, fits-call, as-ref, judge-arg, judge-args, judge-block, judge-cmds, judge-def, judge-stat, judge}
 use Rattle.language.proofs.typing.SameType.{andb-l, andb-r, same-type-is, same-types-is, same-pars-is, free-is, base-is, declarable-in, declarable-is}
 use Rattle.language.proofs.typing.Unique.{Is, is, IsO, isO, is-pass, complete-params, complete-expr, complete-exprs, complete-arg, complete-args, complete-block, complete-def, complete-stat}
 

@@ -6,12 +6,13 @@ use mathlib.Core.List.{List, [], _∷_}
 use mathlib.Core.Option.{Option, none, some, Option·none-ne-some}
 use lib.Dec.{T}
 use Rattle.language.specs.Syntax.{Name, at, ArgP, Expr, num, name, if-expr, and, or, app, abs, Exprs, one-expr, more-exprs, ExprP, val, adr, Cmds, last, def-then, stat-then, Def, const, fun, fun-rec, var, proc, proc-rec, Stat, echo, set, if-stat, while, call, Block, block}
+use Rattle.language.specs.Answers.{Result, fine}
 use Rattle.language.specs.Names.{Op, Meaning, literal, operator, free, lookup, meaning, unless-nine, head-operator}
 use Rattle.language.specs.Types.{Ty, base, fn, Tys, BOOL, INT, typeOf, Par, ref, Entity, plain, procedure, Ctx, find, values, takes, result}
 use Rattle.language.specs.Typing.{Free, AllDeclarable, HasE, NUM, LITERAL, IDV, IDR, IF, AND, OR, PRIM, APP, ABS, HasEs, ONE, MORE, HasA, REF, VAL, HasAs, NO-ARGS, ARGS, HasB, BLOC, HasC, DECS, STATS, END, HasD, CONST, FUN, FUNREC, VAR, PROC, PROCREC, HasS, ECHO, SET, IFS, WHILE, CALL}
 use Rattle.language.specs.Order.{after-def}
 use Rattle.language.proofs.typing.Names.{head-typed}
-use Rattle.language.proofs.typing.Judge.{Result, fine, andThen, judged, only, passes, andb, same-type, is-free, is-base, read-type, name-type, judge-app, judge-params, judge-expr, judge-exprs, ref-type, call-pars, fits-ref, fits-call, as-ref, judge-arg, judge-args, judge-block, judge-cmds, judge-def, judge-stat}
+use Rattle.language.proofs.typing.Judge.{andThen, judged, only, passes, andb, same-type, is-free, is-base, read-type, name-type, judge-app, judge-params, judge-expr, judge-exprs, ref-type, call-pars, fits-ref, fits-call, as-ref, judge-arg, judge-args, judge-block, judge-cmds, judge-def, judge-stat}
 use Rattle.language.proofs.typing.SameType.{andb-in, same-type-refl, same-types-refl, same-pars-refl, free-in, base-in, declarable-in}
 
 -- a result that is there, and is a

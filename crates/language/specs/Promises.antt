@@ -1,0 +1,148 @@
+-- What each public job answers and what it leaves in every table, for all inputs (document 01, "When the gate says no" and "Left behind").
+-- NAME's promise is `nameAt` of Words.
+use mathlib.Core.Path.{_≡_}
+use mathlib.Core.Bool.{Bool, true, false, cond}
+use mathlib.Core.List.{List, [], _∷_, _++_}
+use mathlib.Core.Option.{some}
+use Prim.Native.Nat.{ℕ, _-_, _≤_, _<_}
+use lib.Dec.{leb}
+use lib.IntN.{ℤ}
+use lib.ListN.{length, drop, replicate}
+use Rattle.language.specs.Syntax.{Block}
+use Rattle.language.specs.Answers.{Refusal, LENGTH, LIMIT, TABLE, TYPE, Answer, done, refused, Result, fine, refuse}
+use Rattle.language.specs.Table.{table}
+use Rattle.language.specs.Reading.{Reading}
+use Rattle.language.specs.Typing.{Typable}
+use Rattle.language.specs.Order.{TypeRefused}
+use Rattle.language.specs.Limits.{Limits, Admitted}
+use Rattle.language.specs.Rules.{State, start, run}
+use Rattle.language.specs.Outcome.{state-of, end-of}
+
+-- The verdict on a text (4 to 9): its tree, if the grammar yields the text within the limits and it is typed; else the refusal and its place.
+pub data Verdict (text : List ℕ) : Result Block → Type 0 where
+  unread : {r : Refusal} {p : ℕ} → Reading text (refuse r p) → Verdict text (refuse r p)
+  untyped : {b : Block} {q : ℕ} → Reading text (fine b) → TypeRefused b q → Verdict text (refuse TYPE q)
+  typed : {b : Block} → Reading text (fine b) → Typable b → Verdict text (fine b)
+
+abbrev pub verdict-answer : Result Block → Answer
+verdict-answer (fine b) = done
+verdict-answer (refuse r p) = refused r p
+
+-- ---- tables
+
+-- the most bytes of a text (else LENGTH), and the words of a tree table (else TABLE)
+abbrev pub text-bytes : ℕ
+text-bytes = 16384
+
+abbrev pub tree-words : ℕ
+tree-words = 4096
+
+-- a lent table of numbers: how many entries the job may use, and what it holds
+pub record Lent : Type 0 where
+  pub size : ℕ
+  pub holds : List ℕ
+
+abbrev pub tree-table : List ℕ → Lent
+tree-table t = record { size = tree-words; holds = t }
+
+-- each table has the entries that the job may use
+abbrev pub large-enough : List Lent → Bool
+large-enough [] = true
+large-enough (t ∷ ts) = cond (leb (t .size) (length (t .holds))) (large-enough ts) false
+
+-- the first n entries become zero, or these numbers and then zeros; the rest is untouched
+abbrev pub zeroed : ℕ → List ℕ → List ℕ
+zeroed n t = replicate n 0 ++ drop n t
+
+abbrev pub holding : ℕ → List ℕ → List ℕ → List ℕ
+holding n l t = l ++ (replicate (n - length l) 0 ++ drop n t)
+
+-- tables as they were lent, and tables that are zero as far as the job may use them
+abbrev pub untouched : List Lent → List (List ℕ)
+untouched [] = []
+untouched (t ∷ ts) = t .holds ∷ untouched ts
+
+abbrev pub cleared : List Lent → List (List ℕ)
+cleared [] = []
+cleared (t ∷ ts) = zeroed (t .size) (t .holds) ∷ cleared ts
+
+-- the tree table after a verdict: the tree and zeros behind it, or zeros
+abbrev pub tree-after : Result Block → List ℕ → List ℕ
+tree-after (fine b) t = holding tree-words (table b) t
+tree-after (refuse r p) t = zeroed tree-words t
+
+-- ---- CHECK
+
+-- what CHECK says, and what the tree table and the working tables then hold
+pub record Checked : Type 0 where
+  pub answer : Answer
+  pub tree : List ℕ
+  pub works : List (List ℕ)
+
+pub data Check (text tree : List ℕ) (works : List Lent) : Checked → Type 0 where
+  -- 1 LENGTH and 3 TABLE: nothing is changed
+  too-long : text-bytes < length text →
+      Check text tree works (record { answer = refused LENGTH 0; tree = tree; works = untouched works })
+  too-small : length text ≤ text-bytes → large-enough (tree-table tree ∷ works) ≡ false →
+      Check text tree works (record { answer = refused TABLE 0; tree = tree; works = untouched works })
+  -- 0 and 4 to 9
+  judged : {v : Result Block} → length text ≤ text-bytes → large-enough (tree-table tree ∷ works) ≡ true → Verdict text v →
+      Check text tree works (record { answer = verdict-answer v; tree = tree-after v tree; works = cleared works })
+
+-- ---- RUN
+
+-- what RUN says: an answer, the units, bindings and cells taken, and how many numbers were put out
+pub record Told : Type 0 where
+  pub answer : Answer
+  pub units : ℕ
+  pub bindings : ℕ
+  pub cells : ℕ
+  pub numbers : ℕ
+
+abbrev pub told : Answer → State → Told
+told a s = record { answer = a; units = s .units; bindings = s .bindings; cells = length (s .cells); numbers = length (s .numbers) }
+
+-- and what the tables then hold: the tree, the working tables, those of bindings and cells, the output
+pub record Ran : Type 0 where
+  pub says : Told
+  pub tree : List ℕ
+  pub works : List (List ℕ)
+  pub stores : List (List ℕ)
+  pub output : List ℤ
+
+-- the numbers put out, and the rest of the output table as it was
+abbrev pub put-into : List ℤ → List ℤ → List ℤ
+put-into numbers t = numbers ++ drop (length numbers) t
+
+-- all that is lent for a run is large enough: the output table for its limit
+abbrev pub all-large-enough : Limits → List Lent → List ℤ → Bool
+all-large-enough L ts output = cond (leb (L .output) (length output)) (large-enough ts) false
+
+-- `stores` are the tables of bindings and cells, as far as their limits
+pub data Run (L : Limits) (text tree : List ℕ) (works stores : List Lent) (output : List ℤ) : Ran → Type 0 where
+  -- 1 LENGTH, 2 LIMIT, 3 TABLE: nothing is changed
+  too-long : text-bytes < length text →
+      Run L text tree works stores output
+      (record { says = told (refused LENGTH 0) start; tree = tree; works = untouched works; stores = untouched stores; output = output })
+  too-much : length text ≤ text-bytes → ¬ Admitted L →
+      Run L text tree works stores output
+      (record { says = told (refused LIMIT 0) start; tree = tree; works = untouched works; stores = untouched stores; output = output })
+  too-small : length text ≤ text-bytes → Admitted L → all-large-enough L (tree-table tree ∷ (works ++ stores)) output ≡ false →
+      Run L text tree works stores output
+      (record { says = told (refused TABLE 0) start; tree = tree; works = untouched works; stores = untouched stores; output = output })
+  -- 4 to 9: bindings, cells and output are untouched
+  not-run : {r : Refusal} {p : ℕ} → length text ≤ text-bytes → Admitted L → all-large-enough L (tree-table tree ∷ (works ++ stores)) output ≡ true →
+      Verdict text (refuse r p) →
+      Run L text tree works stores output
+      (record { says = told (refused r p) start; tree = zeroed tree-words tree; works = cleared works; stores = untouched stores; output = output })
+  -- 0 and 20 to 27: the run's end and counts
+  ran : {b : Block} {a : Answer} → length text ≤ text-bytes → Admitted L → all-large-enough L (tree-table tree ∷ (works ++ stores)) output ≡ true →
+      Verdict text (fine b) → end-of (run L b) ≡ some a →
+      Run L text tree works stores output
+      (record {
+        says = told a (state-of (run L b));
+        tree = holding tree-words (table b) tree;
+        works = cleared works;
+        stores = cleared stores;
+        output = put-into (state-of (run L b) .numbers) output;
+      })
