@@ -2,3 +2,4 @@ pub mod reading
 pub mod typing
 pub mod running
 pub mod texts
+pub mod Claims

@@ -1,1 +1,6 @@
 pub mod Verdicts
+pub mod Promised
+pub mod Tables
+pub mod Desk
+pub mod Worked
+pub mod Vectors

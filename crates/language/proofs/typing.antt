@@ -5,3 +5,4 @@ pub mod SameType
 pub mod Unique
 pub mod Judged
 pub mod Levels128
+pub mod Depths

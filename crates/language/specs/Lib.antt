@@ -17,3 +17,4 @@ pub mod Rules
 pub mod Outcome
 pub mod Promises
 pub mod Desk
+pub mod Claims

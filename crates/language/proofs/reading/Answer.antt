@@ -14,9 +14,9 @@ use Rattle.language.specs.Words.{Word, place-word, wordsOf, most}
 use Rattle.language.specs.Grammar.{BLOCK, Reads}
 use Rattle.language.specs.Levels.{levels, deepest}
 use Rattle.language.specs.Reading.{Opens, Within, no-level, a-level, Reading, bad-word, too-many-words, begins-none, opens-65th, a-program}
-use Rattle.language.proofs.reading.Machine.{Ran, through, stuck, whole}
+use Rattle.language.proofs.reading.Machine.{Parsed, through, stuck, whole}
 use Rattle.language.proofs.reading.Descent.{Got}
-use Rattle.language.proofs.reading.Reader.{past, deep, levelsIn, accept, ended, judged, counted, scanned, read}
+use Rattle.language.proofs.reading.Reader.{past, deep, levelsIn, accept, ended, levelled, counted, scanned, read}
 use Rattle.language.proofs.reading.Complete.{complete}
 use Rattle.language.proofs.reading.Sound.{sound}
 use Rattle.language.proofs.reading.First.{done-levels, append-one, refused-at, stops-at, says-done, says-any}
@@ -160,7 +160,7 @@ level-answer s pre rest ls x e h o d =
 
 -- `read` answers as promised.
 module _ (s : List ℕ) (ts : List Word) (e : wordsOf s ≡ fine ts) (h : length ts ≤ most) where
-  judged-right : (r : Ran) → whole ts ≡ r → (d : Option Word) → deep (levelsIn r) ts ≡ d → Reading s (judged s ts r d)
+  judged-right : (r : Parsed) → whole ts ≡ r → (d : Option Word) → deep (levelsIn r) ts ≡ d → Reading s (levelled s ts r d)
   judged-right (through t o) k (some x) d =
       level-answer s ts [] o x (e ∙ ap fine (sym (append-nil ts))) (subst (λ (l : List Word). length l ≤ most) (sym (append-nil ts)) h) (says-done k) d
   judged-right (stuck rest o) k (some x) d =
@@ -192,12 +192,12 @@ answers s = go (wordsOf s) refl
     go (fine ts) e = count ts e (past most ts) refl
 
 -- And no other answer is allowed.
-pub of-words : (s : List ℕ) (ts : List Word) → wordsOf s ≡ fine ts → length ts ≤ most → read s ≡ judged s ts (whole ts) (deep (levelsIn (whole ts)) ts)
+pub of-words : (s : List ℕ) (ts : List Word) → wordsOf s ≡ fine ts → length ts ≤ most → read s ≡ levelled s ts (whole ts) (deep (levelsIn (whole ts)) ts)
 unfolding read
 of-words s ts e h = rw (e, past-within most ts h) refl
 
-of-result : (s : List ℕ) (ts : List Word) (r : Ran) → whole ts ≡ r → deep (levelsIn r) ts ≡ none → judged s ts (whole ts) (deep (levelsIn (whole ts)) ts) ≡ ended s ts r
-of-result s ts r e d = ap (λ (z : Ran). judged s ts z (deep (levelsIn z) ts)) e ∙ ap (λ (o : Option Word). judged s ts r o) d
+of-result : (s : List ℕ) (ts : List Word) (r : Parsed) → whole ts ≡ r → deep (levelsIn r) ts ≡ none → levelled s ts (whole ts) (deep (levelsIn (whole ts)) ts) ≡ ended s ts r
+of-result s ts r e d = ap (λ (z : Parsed). levelled s ts z (deep (levelsIn z) ts)) e ∙ ap (λ (o : Option Word). levelled s ts r o) d
 
 pub only : {s : List ℕ} {a : (Result Block)} → Reading s a → read s ≡ a
 unfolding read
@@ -211,7 +211,7 @@ only {s} (opens-65th pre x rest ls e h o w) =
     let c : levelsIn (whole ts) ≡ ls ++ (suc deepest ∷ z .0) = ap (λ (y : List Word). levelsIn (whole y)) (sym (append-one pre x rest)) ∙ (z .1 ∙ append-assoc ls (suc deepest ∷ []) (z .0)) in
     let n : length ls ≡ length pre = omega (arith, o .each, length-append ls (suc deepest ∷ []), length-append pre (x ∷ [])) in
     let one-more : deepest < suc deepest = omega arith in
-    of-words s ts e h ∙ ap (judged s ts (whole ts)) (ap (λ (y : List ℕ). deep y ts) c ∙ deep-at ls (suc deepest) (z .0) pre x rest w one-more n)
+    of-words s ts e h ∙ ap (levelled s ts (whole ts)) (ap (λ (y : List ℕ). deep y ts) c ∙ deep-at ls (suc deepest) (z .0) pre x rest w one-more n)
 only {s} (a-program {ts} {b} e h r w) =
     of-words s ts e h ∙ (of-result s ts _ (complete r) (deep-within (levels b) ts w) ∙ ap accept (built r))
 

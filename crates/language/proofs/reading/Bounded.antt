@@ -13,19 +13,19 @@ use Rattle.language.specs.Grammar.{BLOCK, Reads}
 use Rattle.language.specs.Table.{Forest, shapeBlock, Node, enc}
 use Rattle.language.specs.Levels.{levels, deepest}
 use Rattle.language.specs.Reading.{Within}
-use Rattle.language.proofs.reading.Machine.{tag, Entry, ent, opened, Rule, rule, rules, pick, Ran, through, stuck, parse, start, whole}
-use Rattle.language.proofs.reading.Reader.{deep, levelsIn, judged, read}
+use Rattle.language.proofs.reading.Machine.{tag, Entry, ent, opened, Rule, rule, rules, pick, Parsed, through, stuck, parse, start, whole}
+use Rattle.language.proofs.reading.Reader.{deep, levelsIn, levelled, read}
 use Rattle.language.proofs.reading.Bounds.{End, finished, wrong, too-deep, fireB, bounded, answerOf}
 use Rattle.language.proofs.reading.Written.{written}
 use Rattle.language.proofs.reading.Answer.{deep-within, of-words}
 use Rattle.language.proofs.reading.Machine
 
-abbrev endOf : Ran → End
+abbrev endOf : Parsed → End
 endOf (through t o) = finished t
 endOf (stuck rest o) = wrong rest
 
 -- no word past the deepest: the same end; else that word
-abbrev Same : Option Word → Ran → End → Type 0
+abbrev Same : Option Word → Parsed → End → Type 0
 Same none r e = e ≡ endOf r
 Same (some x) r e = (rest : List Word) × (e ≡ too-deep (x ∷ rest))
 
@@ -39,19 +39,19 @@ same-end (x ∷ ts) (ent X q u ∷ s) t f = go (pick (tag x) (rules X)) (λ s′
     go : (c : Option Rule)
         → ((s′ : List Entry) (t′ : List Node) (g : List ℕ → List ℕ) → (z : List ℕ) × (levelsIn (parse ts s′ t′ g) ≡ g z) × Same (deep z ts) (parse ts s′ t′ g) (bounded ts s′ t′))
         → (z : List ℕ)
-        × (levelsIn (elim c as (λ _. Ran) [ none ↦ stuck (x ∷ ts) (f []) | some ρ ↦ Machine.fire ρ (place-word x) q u s t f (λ s′ t′ g. parse ts s′ t′ g) ]) ≡ f z)
+        × (levelsIn (elim c as (λ _. Parsed) [ none ↦ stuck (x ∷ ts) (f []) | some ρ ↦ Machine.fire ρ (place-word x) q u s t f (λ s′ t′ g. parse ts s′ t′ g) ]) ≡ f z)
         × Same
         (deep z (x ∷ ts))
-        (elim c as (λ _. Ran) [ none ↦ stuck (x ∷ ts) (f []) | some ρ ↦ Machine.fire ρ (place-word x) q u s t f (λ s′ t′ g. parse ts s′ t′ g) ])
+        (elim c as (λ _. Parsed) [ none ↦ stuck (x ∷ ts) (f []) | some ρ ↦ Machine.fire ρ (place-word x) q u s t f (λ s′ t′ g. parse ts s′ t′ g) ])
         (elim c as (λ _. End) [ none ↦ wrong (x ∷ ts) | some ρ ↦ fireB ρ x ts q u s t (λ s′ t′. bounded ts s′ t′) ])
     go none ih = ([], refl, refl)
     go (some (rule j a ps ns)) ih = let w = ih _ _ _ in (opened ps u ∷ w .0, w .1, past (ltb deepest (opened ps u)) (w .0) _ _ (w .2))
       where
-        past : (b : Bool) (z : List ℕ) (r : Ran) (e : End) → Same (deep z ts) r e → Same (cond b (some x) (deep z ts)) r (cond b (too-deep (x ∷ ts)) e)
+        past : (b : Bool) (z : List ℕ) (r : Parsed) (e : End) → Same (deep z ts) r e → Same (cond b (some x) (deep z ts)) r (cond b (too-deep (x ∷ ts)) e)
         past true z r e h = (ts, refl)
         past false z r e h = h
 
-same-answer : (s : List ℕ) (ts : List Word) (d : Option Word) (r : Ran) (e : End) → Same d r e → judged s ts r d ≡ answerOf s ts e
+same-answer : (s : List ℕ) (ts : List Word) (d : Option Word) (r : Parsed) (e : End) → Same d r e → levelled s ts r d ≡ answerOf s ts e
 same-answer s ts none (through t o) e h = ap (answerOf s ts) (sym h)
 same-answer s ts none (stuck rest o) e h = ap (answerOf s ts) (sym h)
 same-answer s ts (some x) r e h = ap (answerOf s ts) (sym (h .1))

@@ -11,7 +11,7 @@ use Rattle.language.specs.Grammar.{BLOCK, Reads}
 use Rattle.language.specs.Table.{Node}
 use Rattle.language.specs.Levels.{levels, deepest}
 use Rattle.language.specs.Reading.{Within, a-level}
-use Rattle.language.proofs.reading.Machine.{tag, Sym, Ctx, lev, Entry, ent, Push, kid, deep, same, body, back, call, opened, places, follow, Rule, rule, rules, pick, Ran, stuck, parse, start}
+use Rattle.language.proofs.reading.Machine.{tag, Sym, Ctx, lev, Entry, ent, Push, kid, deep, same, body, back, call, opened, places, follow, Rule, rule, rules, pick, Parsed, stuck, parse, start}
 use Rattle.language.proofs.reading.Reader.{levelsIn}
 use Rattle.language.proofs.reading.Complete.{complete}
 use Rattle.language.proofs.reading.Machine
@@ -62,7 +62,7 @@ climb (x ∷ ts) (ent X q u ∷ s) t f = go (pick (tag x) (rules X)) (λ s′ t�
     go : (c : Option Rule)
         → ((s′ : List Entry) (t′ : List Node) (g : List ℕ → List ℕ) → (z : List ℕ) × (levelsIn (parse ts s′ t′ g) ≡ g z) × ((d : ℕ) → Low d s′ → Climbs d z))
         → (z : List ℕ)
-        × (levelsIn (elim c as (λ _. Ran) [ none ↦ stuck (x ∷ ts) (f []) | some ρ ↦ Machine.fire ρ (place-word x) q u s t f (λ s′ t′ g. parse ts s′ t′ g) ]) ≡ f z)
+        × (levelsIn (elim c as (λ _. Parsed) [ none ↦ stuck (x ∷ ts) (f []) | some ρ ↦ Machine.fire ρ (place-word x) q u s t f (λ s′ t′ g. parse ts s′ t′ g) ]) ≡ f z)
         × ((d : ℕ) → Low d (ent X q u ∷ s) → Climbs d z)
     go none ih = ([], refl, λ d a. tt)
     go (some (rule j a ps ns)) ih =

@@ -12,7 +12,7 @@ use Rattle.language.specs.Words.{Mark, kLbr, kRbr, kLpar, kRpar, kSemi, 
 use Rattle.language.specs.Grammar.{Sort, BLOCK, CMDS, DEF, STAT, TYPE, TYPES, ARG, ARGS, ARGP, ARGSP, EXPR, EXPRS, EXPRP, EXPRSP, TreeOf, Reads, r-block, r-last, r-def-then, r-stat-then, r-const, r-fun, r-fun-rec, r-var, r-proc, r-proc-rec, r-bool, r-int, r-arrow, r-one-type, r-more-types, r-arg, r-one-arg, r-more-args, r-val-arg, r-var-arg, r-one-argp, r-more-argsp, r-echo, r-set, r-if-stat, r-while, r-call, r-one-exprp, r-more-exprsp, r-val, r-adr, r-num, r-name, r-if-expr, r-and, r-or, r-app, r-abs, r-one-expr, r-more-exprs}
 use Rattle.language.specs.Table.{Forest, shapeType, shapeTypes, shapeArg, shapeArgs, shapeArgP, shapeArgsP, shapeExpr, shapeExprs, shapeExprP, shapeExprsP, shapeCmds, shapeDef, shapeStat, shapeBlock, Node, node}
 use Rattle.language.specs.Levels.{levelsType, levelsTypes, levelsArg, levelsArgs, levelsArgP, levelsArgsP, levelsExpr, levelsExprs, levelsExprP, levelsExprsP, levelsCmds, levelsDef, levelsStat, levelsBlock, levels}
-use Rattle.language.proofs.reading.Machine.{link, add-leaf, add-fork, retype, put, Sym, sBlock, sBody, sTail, sSemi, sCT, sExpr, sFT, sFL, sArg1, sArg0, sType, sArgp1, sArgp0, sIC, sIB, sWC, sK1, sK0, sParen, sParenP, sE3, sE2, sE1, sRP, sArgs1, sArgs0, sTs1, sTs0, sTR, Ctx, ctx, lev, down, Entry, ent, follow, Rule, thn, type-rules, block-rules, ex-rules, expr-rules, exprp-rules, arg-rules, argp-rules, paren-rules, adr-rules, rules, Ran, through, parse, enter, whole}
+use Rattle.language.proofs.reading.Machine.{link, add-leaf, add-fork, retype, put, Sym, sBlock, sBody, sTail, sSemi, sCT, sExpr, sFT, sFL, sArg1, sArg0, sType, sArgp1, sArgp0, sIC, sIB, sWC, sK1, sK0, sParen, sParenP, sE3, sE2, sE1, sRP, sArgs1, sArgs0, sTs1, sTs0, sTR, Ctx, ctx, lev, down, Entry, ent, follow, Rule, thn, type-rules, block-rules, ex-rules, expr-rules, exprp-rules, arg-rules, argp-rules, paren-rules, adr-rules, rules, Parsed, through, parse, enter, whole}
 use Rattle.language.proofs.reading.Machine
 
 -- `shape` and `levels` of each sort
@@ -64,14 +64,14 @@ unfolding add-fork
 retype-fork k j p q t = retype-snoc k j p (suc (length t)) (link q (length t) t)
 
 -- From `from` the machine comes to the tokens `r`, with the stack `S` over the link of the last sibling, and has written the nodes `f`.
-record Went (f : Forest → Forest) (q : ℕ) (t : List Node) (from : Ran) (r : List Word) (S : ℕ → List Entry) (out : List ℕ → List ℕ) : Type 0 where
+record Went (f : Forest → Forest) (q : ℕ) (t : List Node) (from : Parsed) (r : List Word) (S : ℕ → List Entry) (out : List ℕ → List ℕ) : Type 0 where
   at : ℕ
   tab : List Node
   moves : from ≡ parse r (S at) tab out
   wrote : (g : Forest) → put (f g) q t ≡ put g at tab
 
 -- one after the other, where the machine's next step computes
-seq : {f g : Forest → Forest} {q : ℕ} {t : List Node} {from to : Ran} {m r : List Word} {S S′ : ℕ → List Entry} {o o′ : List ℕ → List ℕ}
+seq : {f g : Forest → Forest} {q : ℕ} {t : List Node} {from to : Parsed} {m r : List Word} {S S′ : ℕ → List Entry} {o o′ : List ℕ → List ℕ}
     → (w : Went f q t from m S o)
     → parse m (S (w .at)) (w .tab) o ≡ to
     → Went g (w .at) (w .tab) to r S′ o′
@@ -84,14 +84,14 @@ into : (X : Sym) {f : Forest → Forest} {q : ℕ} (u : Ctx) (s : List Entry) {t
 into X {q = q} u s {t} ls ts v = record { at = v .at; tab = v .tab; moves = run-enter X q u s t ls ts ∙ v .moves; wrote = v .wrote }
 
 -- one after the other, where the next begins with the symbol X
-next : (X : Sym) (u : Ctx) (s : List Entry) {f g : Forest → Forest} {q : ℕ} {t : List Node} {from : Ran} {m r : List Word} {S′ : ℕ → List Entry} {o o′ : List ℕ → List ℕ}
+next : (X : Sym) (u : Ctx) (s : List Entry) {f g : Forest → Forest} {q : ℕ} {t : List Node} {from : Parsed} {m r : List Word} {S′ : ℕ → List Entry} {o o′ : List ℕ → List ℕ}
     → (w : Went f q t from m (λ a. ent X a u ∷ s) o)
     → Went g (w .at) (w .tab) (enter (rules X) (w .at) u s (w .tab) o m) r S′ o′
     → Went (λ z. f (g z)) q t from r S′ o′
 next X u s {m = m} {o = o} w v = seq w (run-enter X (w .at) u s (w .tab) o m) v
 
 -- one node, whose children are written
-wrap : (k p q : ℕ) (t : List Node) {f : Forest → Forest} {from : Ran} {m r : List Word} {S S′ : ℕ → List Entry} {T : List Node} {o o′ : List ℕ → List ℕ}
+wrap : (k p q : ℕ) (t : List Node) {f : Forest → Forest} {from : Parsed} {m r : List Word} {S S′ : ℕ → List Entry} {T : List Node} {o o′ : List ℕ → List ℕ}
     → T ≡ add-fork k p q t
     → (w : Went f 0 T from m S o)
     → parse m (S (w .at)) (w .tab) o ≡ parse r (S′ (suc (length t))) (w .tab) o′
@@ -105,7 +105,7 @@ wrap k p q t e w c =
       wrote = λ z. rw (← e) (ap (put z (suc (length t))) (w .wrote Forest.none));
     }
 
-leafw : (k p q : ℕ) (t : List Node) {from : Ran} {r : List Word} {S : ℕ → List Entry} {o : List ℕ → List ℕ}
+leafw : (k p q : ℕ) (t : List Node) {from : Parsed} {r : List Word} {S : ℕ → List Entry} {o : List ℕ → List ℕ}
     → from ≡ parse r (S (suc (length t))) (add-leaf k p q t) o
     → Went (λ z. Forest.leaf k p z) q t from r S o
 unfolding put
@@ -183,7 +183,7 @@ paren-app isE u s t ls ts = run-enter sParen 0 u s t ls ts
 paren-app isP u s t ls ts = run-enter sParenP 0 u s t ls ts
 
 -- a path before the first step
-begin : {f : Forest → Forest} {q : ℕ} {t : List Node} {from to : Ran} {r : List Word} {S : ℕ → List Entry} {o : List ℕ → List ℕ} → from ≡ to → Went f q t to r S o → Went f q t from r S o
+begin : {f : Forest → Forest} {q : ℕ} {t : List Node} {from to : Parsed} {r : List Word} {S : ℕ → List Entry} {o : List ℕ → List ℕ} → from ≡ to → Went f q t to r S o → Went f q t from r S o
 begin e v = record { at = v .at; tab = v .tab; moves = e ∙ v .moves; wrote = v .wrote }
 
 -- at its closer, a statement's end does as `sTail` would
@@ -192,7 +192,7 @@ unfolding parse
 call-end c-semi a b u s t ls = refl
 call-end c-rbr a b u s t ls = refl
 
-onto : {f : Forest → Forest} {q : ℕ} {t : List Node} {from : Ran} {m r : List Word} {S S′ : ℕ → List Entry} {o o′ : List ℕ → List ℕ}
+onto : {f : Forest → Forest} {q : ℕ} {t : List Node} {from : Parsed} {m r : List Word} {S S′ : ℕ → List Entry} {o o′ : List ℕ → List ℕ}
     → (w : Went f q t from m S o)
     → parse m (S (w .at)) (w .tab) o ≡ parse r (S′ (w .at)) (w .tab) o′
     → Went f q t from r S′ o′

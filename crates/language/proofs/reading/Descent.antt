@@ -131,23 +131,23 @@ cmdsOf L ts =
 abbrev pub blockOf : Level → List Word → Got Block
 blockOf L ts = andThen (expect kLbr ts) λ p us. andThen (L .cmds us) λ c vs. andThen (expect kRbr vs) λ i r. got (block p c) r
 
-unfoldable pub level : ℕ → Level
-level zero =
+unfoldable pub descent : ℕ → Level
+descent zero =
     record
     { type = λ ts. miss; types = λ ts. miss; args = λ ts. miss; argsp = λ ts. miss; expr = λ ts. miss; exprs = λ ts. miss; exprsp = λ ts. miss; cmds = λ ts. miss; block = λ ts. miss }
-level (suc n) =
+descent (suc n) =
     record {
-      type = typeOf (level n);
-      types = typesOf (level n);
-      args = argsOf (level n);
-      argsp = argspOf (level n);
-      expr = exprOf (level n);
-      exprs = exprsOf (level n);
-      exprsp = exprspOf (level n);
-      cmds = cmdsOf (level n);
-      block = blockOf (level n);
+      type = typeOf (descent n);
+      types = typesOf (descent n);
+      args = argsOf (descent n);
+      argsp = argspOf (descent n);
+      expr = exprOf (descent n);
+      exprs = exprsOf (descent n);
+      exprsp = exprspOf (descent n);
+      cmds = cmdsOf (descent n);
+      block = blockOf (descent n);
     }
 
 -- deep enough for so many words
 abbrev pub treeOf : List Word → Got Block
-treeOf ts = level (4 * length ts) .block ts
+treeOf ts = descent (4 * length ts) .block ts

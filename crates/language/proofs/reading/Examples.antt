@@ -8,7 +8,7 @@ use Rattle.language.specs.Answers.{BYTE, NUMBER, SYNTAX, fine, refuse}
 use Rattle.language.specs.Words.{kLbr, kRbr, kArrow, kECHO, mark, number, named, wordsFrom, wordsOf}
 use Rattle.language.specs.Table.{shapeExpr, shapeCmds, size, first, enc, table}
 use Rattle.language.proofs.reading.Machine.{set-sib, link, add-leaf, add-fork, retype, parse}
-use Rattle.language.proofs.reading.Descent.{level}
+use Rattle.language.proofs.reading.Descent.{descent}
 use Rattle.language.proofs.reading.Reader.{past, deep, read}
 use Rattle.language.specs.Syntax
 use Rattle.language.specs.Words
@@ -43,11 +43,11 @@ unfolding wordsFrom
 w7 = refl
 
 r1 : read (bytesOf "[ECHO 1]") ≡ fine (block 0 (last (echo 1 (num 6 (pos 1)))))
-unfolding read wordsFrom parse add-leaf add-fork link set-sib retype level past deep
+unfolding read wordsFrom parse add-leaf add-fork link set-sib retype descent past deep
 r1 = refl
 
 r2 : read (bytesOf "[]") ≡ refuse SYNTAX 1
-unfolding read wordsFrom parse add-leaf add-fork link set-sib retype level past deep
+unfolding read wordsFrom parse add-leaf add-fork link set-sib retype descent past deep
 r2 = refl
 
 t1 : table (block 0 (last (echo 1 (num 6 (pos 1))))) ≡ 0x0001000000010000 ∷ 0x0008000100020000 ∷ 0x0012000600000000 ∷ []
@@ -57,7 +57,7 @@ t1 = refl
 -- a tree in full: `[CONST x int 0; SET x 42]`
 r3 : read (bytesOf "[CONST x int 0; SET x 42]")
     ≡ fine (block 0 (def-then (const 1 (at 7 (bytesOf "x")) (Syntax.int 9) (num 13 (pos 0))) (last (set 16 (at 20 (bytesOf "x")) (num 22 (pos 42))))))
-unfolding read wordsFrom parse add-leaf add-fork link set-sib retype level past deep
+unfolding read wordsFrom parse add-leaf add-fork link set-sib retype descent past deep
 r3 = refl
 
 r4 : read (bytesOf "[CALL p (adr v) (add x1 -7)]")
@@ -68,38 +68,38 @@ r4 : read (bytesOf "[CALL p (adr v) (add x1 -7)]")
     (Syntax.adr 8 (at 13 (bytesOf "v"))
     ∷ Syntax.val (app 16 (name (at 17 (bytesOf "add"))) (more-exprs (name (at 21 (bytesOf "x1"))) (one-expr (num 24 (negsuc 6)))))
     ∷ []))))
-unfolding read wordsFrom parse add-leaf add-fork link set-sib retype level past deep
+unfolding read wordsFrom parse add-leaf add-fork link set-sib retype descent past deep
 r4 = refl
 
 -- `(adr` where an expression must stand is SYNTAX at `adr`; a CALL has at least one argument; after a definition only `;` goes on
 r5 : read (bytesOf "[ECHO (adr x)]") ≡ refuse SYNTAX 7
-unfolding read wordsFrom parse add-leaf add-fork link set-sib retype level past deep
+unfolding read wordsFrom parse add-leaf add-fork link set-sib retype descent past deep
 r5 = refl
 
 r6 : read (bytesOf "[CALL p]") ≡ refuse SYNTAX 7
-unfolding read wordsFrom parse add-leaf add-fork link set-sib retype level past deep
+unfolding read wordsFrom parse add-leaf add-fork link set-sib retype descent past deep
 r6 = refl
 
 r7 : read (bytesOf "[VAR x int]") ≡ refuse SYNTAX 10
-unfolding read wordsFrom parse add-leaf add-fork link set-sib retype level past deep
+unfolding read wordsFrom parse add-leaf add-fork link set-sib retype descent past deep
 r7 = refl
 
 -- words after the program; a text that ends too soon; no text
 r8 : read (bytesOf "[ECHO 1] ]") ≡ refuse SYNTAX 9
-unfolding read wordsFrom parse add-leaf add-fork link set-sib retype level past deep
+unfolding read wordsFrom parse add-leaf add-fork link set-sib retype descent past deep
 r8 = refl
 
 r9 : read (bytesOf "[ECHO 1 ") ≡ refuse SYNTAX 8
-unfolding read wordsFrom parse add-leaf add-fork link set-sib retype level past deep
+unfolding read wordsFrom parse add-leaf add-fork link set-sib retype descent past deep
 r9 = refl
 
 r10 : read [] ≡ refuse SYNTAX 0
-unfolding read wordsFrom parse add-leaf add-fork link set-sib retype level past deep
+unfolding read wordsFrom parse add-leaf add-fork link set-sib retype descent past deep
 r10 = refl
 
 -- BYTE or NUMBER, whichever stands first, before SYNTAX
 r11 : read (bytesOf "] 2147483648 #") ≡ refuse NUMBER 2
-unfolding read wordsFrom parse add-leaf add-fork link set-sib retype level past deep
+unfolding read wordsFrom parse add-leaf add-fork link set-sib retype descent past deep
 r11 = refl
 
 -- all symbols and key words, and words that only begin like them

@@ -12,7 +12,7 @@ use Rattle.language.specs.Grammar.{BLOCK, Reads, Begins}
 use Rattle.language.specs.Table.{Node}
 use Rattle.language.specs.Levels.{levels}
 use Rattle.language.specs.Reading.{Opens, Ends}
-use Rattle.language.proofs.reading.Machine.{tag, Sym, sBlock, sBody, sTail, sSemi, sCN, sCT, sExpr, sFunH, sFN, sFT, sFL, sArg1, sArg0, sColon, sType, sVN, sProcH, sPN, sPL, sArgp1, sArgp0, sVarN, sSN, sIC, sIB, sWC, sKN, sK1, sK0, sParen, sParenP, sE3, sE2, sE1, sRP, sArgs1, sArgs0, sAN, sTs1, sTs0, sTR, Ctx, Entry, ent, places, follow, Rule, rule, rules, pick, Ran, through, stuck, parse, start, whole}
+use Rattle.language.proofs.reading.Machine.{tag, Sym, sBlock, sBody, sTail, sSemi, sCN, sCT, sExpr, sFunH, sFN, sFT, sFL, sArg1, sArg0, sColon, sType, sVN, sProcH, sPN, sPL, sArgp1, sArgp0, sVarN, sSN, sIC, sIB, sWC, sKN, sK1, sK0, sParen, sParenP, sE3, sE2, sE1, sRP, sArgs1, sArgs0, sAN, sTs1, sTs0, sTR, Ctx, Entry, ent, places, follow, Rule, rule, rules, pick, Parsed, through, stuck, parse, start, whole}
 use Rattle.language.proofs.reading.Reader.{levelsIn}
 use Rattle.language.proofs.reading.Complete.{complete}
 use Rattle.language.proofs.reading.Sound.{sound}
@@ -155,7 +155,7 @@ stop-levels : {a b : List Word} {l m : List ℕ} → stuck a l ≡ stuck b m →
 stop-levels e = cc
 
 pub no-stop : {ts : List Word} {l o : List ℕ} {t : List Node} → stuck ts l ≡ through t o → ⊥
-no-stop e = subst (λ (r : Ran). elim r as (λ _. Type 0) [ through t o ↦ ⊥ | stuck ts l ↦ Unit {0} ]) e tt
+no-stop e = subst (λ (r : Parsed). elim r as (λ _. Type 0) [ through t o ↦ ⊥ | stuck ts l ↦ Unit {0} ]) e tt
 
 -- what is read to the end was read up to any of its words
 pub advance : (pre r : List Word) (s : List Entry) (t : List Node) (f : List ℕ → List ℕ) (t′ : List Node) (o : List ℕ) → parse (pre ++ r) s t f ≡ through t′ o → At pre s t f
@@ -166,7 +166,7 @@ advance (x ∷ pre) r (ent X q u ∷ s) t f t′ o e = go (pick (tag x) (rules X
   where
     go : (c : Option Rule)
         → pick (tag x) (rules X) ≡ c
-        → elim c as (λ _. Ran) [ none ↦ stuck (x ∷ pre ++ r) (f []) | some ρ ↦ Machine.fire ρ (place-word x) q u s t f (λ s′ t′ g. parse (pre ++ r) s′ t′ g) ] ≡ through t′ o
+        → elim c as (λ _. Parsed) [ none ↦ stuck (x ∷ pre ++ r) (f []) | some ρ ↦ Machine.fire ρ (place-word x) q u s t f (λ s′ t′ g. parse (pre ++ r) s′ t′ g) ] ≡ through t′ o
         → ((s′ : List Entry) (tab : List Node) (g : List ℕ → List ℕ) → parse (pre ++ r) s′ tab g ≡ through t′ o → At pre s′ tab g)
         → At (x ∷ pre) (ent X q u ∷ s) t f
     go none c e′ ih = absurd (no-stop e′)
@@ -181,7 +181,7 @@ grows (x ∷ r) [] t f t′ o e = absurd (no-stop e)
 grows (x ∷ r) (ent X q u ∷ s) t f t′ o e = go (pick (tag x) (rules X)) e (λ s′ tab g e′. grows r s′ tab g t′ o e′)
   where
     go : (c : Option Rule)
-        → elim c as (λ _. Ran) [ none ↦ stuck (x ∷ r) (f []) | some ρ ↦ Machine.fire ρ (place-word x) q u s t f (λ s′ t′ g. parse r s′ t′ g) ] ≡ through t′ o
+        → elim c as (λ _. Parsed) [ none ↦ stuck (x ∷ r) (f []) | some ρ ↦ Machine.fire ρ (place-word x) q u s t f (λ s′ t′ g. parse r s′ t′ g) ] ≡ through t′ o
         → ((s′ : List Entry) (tab : List Node) (g : List ℕ → List ℕ) → parse r s′ tab g ≡ through t′ o → (z : List ℕ) × (o ≡ g z))
         → (z : List ℕ) × (o ≡ f z)
     go none e′ ih = absurd (no-stop e′)
@@ -259,7 +259,7 @@ reach (x ∷ ts) (ent X q u ∷ s) t f rest lv e = go (pick (tag x) (rules X)) r
   where
     go : (c : Option Rule)
         → pick (tag x) (rules X) ≡ c
-        → elim c as (λ _. Ran) [ none ↦ stuck (x ∷ ts) (f []) | some ρ ↦ Machine.fire ρ (place-word x) q u s t f (λ s′ t′ g. parse ts s′ t′ g) ] ≡ stuck rest lv
+        → elim c as (λ _. Parsed) [ none ↦ stuck (x ∷ ts) (f []) | some ρ ↦ Machine.fire ρ (place-word x) q u s t f (λ s′ t′ g. parse ts s′ t′ g) ] ≡ stuck rest lv
         → ((s′ : List Entry) (t′ : List Node) (g : List ℕ → List ℕ) → parse ts s′ t′ g ≡ stuck rest lv → Stops ts s′ t′ g rest lv)
         → Stops (x ∷ ts) (ent X q u ∷ s) t f rest lv
     go none c e′ ih = here (x ∷ ts) (ent X q u ∷ s) t f (λ y g. rw (c, parse) refl) (stop-rest e′) (stop-levels e′)
@@ -347,7 +347,7 @@ stay (x ∷ r) (ent X q u ∷ s) t f = go (pick (tag x) (rules X)) (λ s′ tab 
   where
     go : (c : Option Rule)
         → ((s′ : List Entry) (tab : List Node) (g : List ℕ → List ℕ) → (z : List ℕ) × (levelsIn (parse r s′ tab g) ≡ g z))
-        → (z : List ℕ) × (levelsIn (elim c as (λ _. Ran) [ none ↦ stuck (x ∷ r) (f []) | some ρ ↦ Machine.fire ρ (place-word x) q u s t f (λ s′ t′ g. parse r s′ t′ g) ]) ≡ f z)
+        → (z : List ℕ) × (levelsIn (elim c as (λ _. Parsed) [ none ↦ stuck (x ∷ r) (f []) | some ρ ↦ Machine.fire ρ (place-word x) q u s t f (λ s′ t′ g. parse r s′ t′ g) ]) ≡ f z)
     go none ih = ([], refl)
     go (some (rule j a ps ns)) ih = let w = ih _ _ _ in (Machine.opened ps u ∷ w .0, w .1)
 

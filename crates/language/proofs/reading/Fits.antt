@@ -9,7 +9,7 @@ use Rattle.language.specs.Syntax.{Block}
 use Rattle.language.specs.Words.{Word, place-word}
 use Rattle.language.specs.Grammar.{BLOCK, Reads}
 use Rattle.language.specs.Table.{Forest, shapeBlock, Node, node, wordOf, enc, table}
-use Rattle.language.proofs.reading.Machine.{tag, link, add-leaf, add-fork, retype, Entry, ent, Act, act, Rule, rule, rules, pick, Ran, through, stuck, parse, start}
+use Rattle.language.proofs.reading.Machine.{tag, link, add-leaf, add-fork, retype, Entry, ent, Act, act, Rule, rule, rules, pick, Parsed, through, stuck, parse, start}
 use Rattle.language.proofs.reading.First.{no-stop}
 use Rattle.language.proofs.reading.Written.{length-link, written}
 use Rattle.language.proofs.reading.Machine
@@ -39,7 +39,7 @@ few-nodes (x ∷ ts) [] t f t′ o e = absurd (no-stop e)
 few-nodes (x ∷ ts) (ent X q u ∷ s) t f t′ o e = go (pick (tag x) (rules X)) e (λ s′ tab g e′. few-nodes ts s′ tab g t′ o e′)
   where
     go : (c : Option Rule)
-        → elim c as (λ _. Ran) [ none ↦ stuck (x ∷ ts) (f []) | some ρ ↦ Machine.fire ρ (place-word x) q u s t f (λ s′ t′ g. parse ts s′ t′ g) ] ≡ through t′ o
+        → elim c as (λ _. Parsed) [ none ↦ stuck (x ∷ ts) (f []) | some ρ ↦ Machine.fire ρ (place-word x) q u s t f (λ s′ t′ g. parse ts s′ t′ g) ] ≡ through t′ o
         → ((s′ : List Entry) (tab : List Node) (g : List ℕ → List ℕ) → parse ts s′ tab g ≡ through t′ o → length t′ ≤ length tab + length ts)
         → length t′ ≤ length t + length (x ∷ ts)
     go none e′ ih = absurd (no-stop e′)

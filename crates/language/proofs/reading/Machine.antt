@@ -252,15 +252,15 @@ pick k [] = none
 pick k (rule j a ps ns ∷ rs) = cond (eqb k j) (some (rule j a ps ns)) (pick k rs)
 
 -- All read, or stopped at the first word of these (none: at the end); with the levels that the words before opened.
-pub data Ran : Type 0 where
-  through : List Node → List ℕ → Ran
-  stuck : List Word → List ℕ → Ran
+pub data Parsed : Type 0 where
+  through : List Node → List ℕ → Parsed
+  stuck : List Word → List ℕ → Parsed
 
-abbrev pub fire : Rule → (p q : ℕ) (u : Ctx) → List Entry → List Node → (List ℕ → List ℕ) → (List Entry → List Node → (List ℕ → List ℕ) → Ran) → Ran
+abbrev pub fire : Rule → (p q : ℕ) (u : Ctx) → List Entry → List Node → (List ℕ → List ℕ) → (List Entry → List Node → (List ℕ → List ℕ) → Parsed) → Parsed
 fire (rule j a ps ns) p q u s t f go = go (places ps (suc (length t)) q u (follow ns (suc (length t)) u s)) (act a p q t) (λ l. f (opened ps u ∷ l))
 
 -- `f` puts the levels that were opened before those to come
-unfoldable pub parse : List Word → List Entry → List Node → (List ℕ → List ℕ) → Ran
+unfoldable pub parse : List Word → List Entry → List Node → (List ℕ → List ℕ) → Parsed
 parse [] [] t f = through t (f [])
 parse [] (e ∷ s) t f = stuck [] (f [])
 parse (x ∷ ts) [] t f = stuck (x ∷ ts) (f [])
@@ -268,7 +268,7 @@ parse (x ∷ ts) (ent X q u ∷ s) t f =
     elim (pick (tag x) (rules X)) [ none ↦ stuck (x ∷ ts) (f []) | some ρ ↦ fire ρ (place-word x) q u s t f (λ s′ t′ g. parse ts s′ t′ g) ]
 
 -- The same with the rules of the top symbol written out.
-unfoldable pub enter : List Rule → (q : ℕ) (u : Ctx) → List Entry → List Node → (List ℕ → List ℕ) → List Word → Ran
+unfoldable pub enter : List Rule → (q : ℕ) (u : Ctx) → List Entry → List Node → (List ℕ → List ℕ) → List Word → Parsed
 enter rs q u s t f [] = stuck [] (f [])
 enter rs q u s t f (x ∷ ts) =
     elim (pick (tag x) rs) [ none ↦ stuck (x ∷ ts) (f []) | some ρ ↦ fire ρ (place-word x) q u s t f (λ s′ t′ g. parse ts s′ t′ g) ]
@@ -276,5 +276,5 @@ enter rs q u s t f (x ∷ ts) =
 abbrev pub start : List Entry
 start = ent sBlock 0 (ctx 0 0) ∷ []
 
-abbrev pub whole : List Word → Ran
+abbrev pub whole : List Word → Parsed
 whole ts = parse ts start [] (λ l. l)

@@ -8,7 +8,7 @@ use lib.ListN.{length}
 use Rattle.language.specs.Syntax.{Ident, TypeTree, bool, int, arrow, TypeTrees, one-type, more-types, Arg, arg, ArgP, val-arg, var-arg, Expr, num, name, if-expr, and, or, app, abs, Exprs, one-expr, more-exprs, ExprP, val, adr, Cmds, last, def-then, stat-then, const, fun, fun-rec, var, proc, proc-rec, echo, set, if-stat, while, call, Block, block}
 use Rattle.language.specs.Words.{kLbr, kRbr, kLpar, kRpar, kSemi, kColon, kComma, kStar, kArrow, kCONST, kFUN, kREC, kVAR, kPROC, kECHO, kSET, kIF, kWHILE, kCALL, kif, kand, kor, kbool, kint, kvar, kadr, Word, mark, number, named}
 use Rattle.language.specs.Grammar.{Sort, BLOCK, CMDS, DEF, STAT, TYPE, TYPES, ARG, ARGS, ARGP, ARGSP, EXPR, EXPRS, EXPRP, EXPRSP, TreeOf, Reads, r-block, r-last, r-def-then, r-stat-then, r-const, r-fun, r-fun-rec, r-var, r-proc, r-proc-rec, r-bool, r-int, r-arrow, r-one-type, r-more-types, r-arg, r-one-arg, r-more-args, r-val-arg, r-var-arg, r-one-argp, r-more-argsp, r-echo, r-set, r-if-stat, r-while, r-call, r-one-exprp, r-more-exprsp, r-val, r-adr, r-num, r-name, r-if-expr, r-and, r-or, r-app, r-abs, r-one-expr, r-more-exprs}
-use Rattle.language.proofs.reading.Descent.{miss, got, expect, Level, typeOf, typesOf, argOf, argsOf, argpOf, argspOf, exprOf, exprsOf, exprpOf, exprspOf, statOf, defOf, cmdsOf, blockOf, level, treeOf}
+use Rattle.language.proofs.reading.Descent.{miss, got, expect, Level, typeOf, typesOf, argOf, argsOf, argpOf, argspOf, exprOf, exprsOf, exprpOf, exprspOf, statOf, defOf, cmdsOf, blockOf, descent, treeOf}
 use Rattle.language.proofs.reading.Complete.{Lit, lit, Closer, c-semi, c-rbr, closes}
 
 -- `level m` is deep enough for the words from `ts` to `r`, for a step that takes `d` words less than 4 a word
@@ -17,67 +17,67 @@ Deep m ts r d = 4 * length ts ≤ m + (4 * length r + d)
 
 -- What is shown of each sort; some want the word behind them.
 abbrev FactOf : (k : Sort) → TreeOf k → List Word → List Word → Type 0
-FactOf BLOCK e ts r = (m : ℕ) → Deep m ts r 4 → blockOf (level m) ts ≡ got e r
-FactOf CMDS e ts r = (r′ : List Word) → Lit kRbr r r′ → (m : ℕ) → Deep m ts r 3 → cmdsOf (level m) ts ≡ got e r
-FactOf DEF e ts r = ((L : Level) → statOf L ts ≡ miss) × ((m : ℕ) → Deep m ts r 3 → defOf (level m) ts ≡ got e r)
-FactOf STAT e ts r = Closer r → (m : ℕ) → Deep m ts r 3 → statOf (level m) ts ≡ got e r
-FactOf TYPE e ts r = (m : ℕ) → Deep m ts r 4 → typeOf (level m) ts ≡ got e r
-FactOf TYPES e ts r = (r′ : List Word) → Lit kArrow r r′ → (m : ℕ) → Deep m ts r 3 → typesOf (level m) ts ≡ got e r
-FactOf ARG e ts r = (m : ℕ) → Deep m ts r 3 → argOf (level m) ts ≡ got e r
-FactOf ARGS e ts r = (r′ : List Word) → Lit kRbr r r′ → (m : ℕ) → Deep m ts r 3 → argsOf (level m) ts ≡ got e r
-FactOf ARGP e ts r = (m : ℕ) → Deep m ts r 3 → argpOf (level m) ts ≡ got e r
-FactOf ARGSP e ts r = (r′ : List Word) → Lit kRbr r r′ → (m : ℕ) → Deep m ts r 3 → argspOf (level m) ts ≡ got e r
-FactOf EXPR e ts r = (m : ℕ) → Deep m ts r 4 → exprOf (level m) ts ≡ got e r
-FactOf EXPRS e ts r = (r′ : List Word) → Lit kRpar r r′ → (m : ℕ) → Deep m ts r 3 → exprsOf (level m) ts ≡ got e r
-FactOf EXPRP e ts r = (m : ℕ) → Deep m ts r 3 → exprpOf (level m) ts ≡ got e r
-FactOf EXPRSP e ts r = Closer r → (m : ℕ) → Deep m ts r 3 → exprspOf (level m) ts ≡ got e r
+FactOf BLOCK e ts r = (m : ℕ) → Deep m ts r 4 → blockOf (descent m) ts ≡ got e r
+FactOf CMDS e ts r = (r′ : List Word) → Lit kRbr r r′ → (m : ℕ) → Deep m ts r 3 → cmdsOf (descent m) ts ≡ got e r
+FactOf DEF e ts r = ((L : Level) → statOf L ts ≡ miss) × ((m : ℕ) → Deep m ts r 3 → defOf (descent m) ts ≡ got e r)
+FactOf STAT e ts r = Closer r → (m : ℕ) → Deep m ts r 3 → statOf (descent m) ts ≡ got e r
+FactOf TYPE e ts r = (m : ℕ) → Deep m ts r 4 → typeOf (descent m) ts ≡ got e r
+FactOf TYPES e ts r = (r′ : List Word) → Lit kArrow r r′ → (m : ℕ) → Deep m ts r 3 → typesOf (descent m) ts ≡ got e r
+FactOf ARG e ts r = (m : ℕ) → Deep m ts r 3 → argOf (descent m) ts ≡ got e r
+FactOf ARGS e ts r = (r′ : List Word) → Lit kRbr r r′ → (m : ℕ) → Deep m ts r 3 → argsOf (descent m) ts ≡ got e r
+FactOf ARGP e ts r = (m : ℕ) → Deep m ts r 3 → argpOf (descent m) ts ≡ got e r
+FactOf ARGSP e ts r = (r′ : List Word) → Lit kRbr r r′ → (m : ℕ) → Deep m ts r 3 → argspOf (descent m) ts ≡ got e r
+FactOf EXPR e ts r = (m : ℕ) → Deep m ts r 4 → exprOf (descent m) ts ≡ got e r
+FactOf EXPRS e ts r = (r′ : List Word) → Lit kRpar r r′ → (m : ℕ) → Deep m ts r 3 → exprsOf (descent m) ts ≡ got e r
+FactOf EXPRP e ts r = (m : ℕ) → Deep m ts r 3 → exprpOf (descent m) ts ≡ got e r
+FactOf EXPRSP e ts r = Closer r → (m : ℕ) → Deep m ts r 3 → exprspOf (descent m) ts ≡ got e r
 
 record Fact (k : Sort) (e : TreeOf k) (ts r : List Word) : Type 0 where
   less : suc (length r) ≤ length ts
   get : FactOf k e ts r
 
-useBlock : {e : Block} {ts r : List Word} → Fact BLOCK e ts r → (m : ℕ) → Deep m ts r 3 → level m .block ts ≡ got e r
-unfolding level
+useBlock : {e : Block} {ts r : List Word} → Fact BLOCK e ts r → (m : ℕ) → Deep m ts r 3 → descent m .block ts ≡ got e r
+unfolding descent
 useBlock h zero b = absurd (omega (arith, b, h .less))
 useBlock h (suc m) b = h .get m (omega (arith, b))
 
-useCmds : {e : Cmds} {ts r : List Word} → Fact CMDS e ts r → (r′ : List Word) → Lit kRbr r r′ → (m : ℕ) → Deep m ts r 2 → level m .cmds ts ≡ got e r
-unfolding level
+useCmds : {e : Cmds} {ts r : List Word} → Fact CMDS e ts r → (r′ : List Word) → Lit kRbr r r′ → (m : ℕ) → Deep m ts r 2 → descent m .cmds ts ≡ got e r
+unfolding descent
 useCmds h r′ c zero b = absurd (omega (arith, b, h .less))
 useCmds h r′ c (suc m) b = h .get r′ c m (omega (arith, b))
 
-useType : {e : TypeTree} {ts r : List Word} → Fact TYPE e ts r → (m : ℕ) → Deep m ts r 3 → level m .type ts ≡ got e r
-unfolding level
+useType : {e : TypeTree} {ts r : List Word} → Fact TYPE e ts r → (m : ℕ) → Deep m ts r 3 → descent m .type ts ≡ got e r
+unfolding descent
 useType h zero b = absurd (omega (arith, b, h .less))
 useType h (suc m) b = h .get m (omega (arith, b))
 
-useTypes : {e : TypeTrees} {ts r : List Word} → Fact TYPES e ts r → (r′ : List Word) → Lit kArrow r r′ → (m : ℕ) → Deep m ts r 2 → level m .types ts ≡ got e r
-unfolding level
+useTypes : {e : TypeTrees} {ts r : List Word} → Fact TYPES e ts r → (r′ : List Word) → Lit kArrow r r′ → (m : ℕ) → Deep m ts r 2 → descent m .types ts ≡ got e r
+unfolding descent
 useTypes h r′ c zero b = absurd (omega (arith, b, h .less))
 useTypes h r′ c (suc m) b = h .get r′ c m (omega (arith, b))
 
-useArgs : {e : List Arg} {ts r : List Word} → Fact ARGS e ts r → (r′ : List Word) → Lit kRbr r r′ → (m : ℕ) → Deep m ts r 2 → level m .args ts ≡ got e r
-unfolding level
+useArgs : {e : List Arg} {ts r : List Word} → Fact ARGS e ts r → (r′ : List Word) → Lit kRbr r r′ → (m : ℕ) → Deep m ts r 2 → descent m .args ts ≡ got e r
+unfolding descent
 useArgs h r′ c zero b = absurd (omega (arith, b, h .less))
 useArgs h r′ c (suc m) b = h .get r′ c m (omega (arith, b))
 
-useArgsP : {e : List ArgP} {ts r : List Word} → Fact ARGSP e ts r → (r′ : List Word) → Lit kRbr r r′ → (m : ℕ) → Deep m ts r 2 → level m .argsp ts ≡ got e r
-unfolding level
+useArgsP : {e : List ArgP} {ts r : List Word} → Fact ARGSP e ts r → (r′ : List Word) → Lit kRbr r r′ → (m : ℕ) → Deep m ts r 2 → descent m .argsp ts ≡ got e r
+unfolding descent
 useArgsP h r′ c zero b = absurd (omega (arith, b, h .less))
 useArgsP h r′ c (suc m) b = h .get r′ c m (omega (arith, b))
 
-useExpr : {e : Expr} {ts r : List Word} → Fact EXPR e ts r → (m : ℕ) → Deep m ts r 3 → level m .expr ts ≡ got e r
-unfolding level
+useExpr : {e : Expr} {ts r : List Word} → Fact EXPR e ts r → (m : ℕ) → Deep m ts r 3 → descent m .expr ts ≡ got e r
+unfolding descent
 useExpr h zero b = absurd (omega (arith, b, h .less))
 useExpr h (suc m) b = h .get m (omega (arith, b))
 
-useExprs : {e : Exprs} {ts r : List Word} → Fact EXPRS e ts r → (r′ : List Word) → Lit kRpar r r′ → (m : ℕ) → Deep m ts r 2 → level m .exprs ts ≡ got e r
-unfolding level
+useExprs : {e : Exprs} {ts r : List Word} → Fact EXPRS e ts r → (r′ : List Word) → Lit kRpar r r′ → (m : ℕ) → Deep m ts r 2 → descent m .exprs ts ≡ got e r
+unfolding descent
 useExprs h r′ c zero b = absurd (omega (arith, b, h .less))
 useExprs h r′ c (suc m) b = h .get r′ c m (omega (arith, b))
 
-useExprsP : {e : List ExprP} {ts r : List Word} → Fact EXPRSP e ts r → Closer r → (m : ℕ) → Deep m ts r 2 → level m .exprsp ts ≡ got e r
-unfolding level
+useExprsP : {e : List ExprP} {ts r : List Word} → Fact EXPRSP e ts r → Closer r → (m : ℕ) → Deep m ts r 2 → descent m .exprsp ts ≡ got e r
+unfolding descent
 useExprsP h c zero b = absurd (omega (arith, b, h .less))
 useExprsP h c (suc m) b = h .get c m (omega (arith, b))
 
@@ -90,14 +90,14 @@ no-star lit = refl
 no-comma : {r r′ : List Word} → Lit kRbr r r′ → expect kComma r ≡ miss
 no-comma lit = refl
 
-no-exprs : (m : ℕ) {r r′ : List Word} → Lit kRpar r r′ → level m .exprs r ≡ miss
-unfolding level
+no-exprs : (m : ℕ) {r r′ : List Word} → Lit kRpar r r′ → descent m .exprs r ≡ miss
+unfolding descent
 no-exprs zero lit = refl
 no-exprs (suc zero) lit = refl
 no-exprs (suc (suc m)) lit = refl
 
-no-exprsp : (m : ℕ) {r : List Word} → Closer r → level m .exprsp r ≡ miss
-unfolding level
+no-exprsp : (m : ℕ) {r : List Word} → Closer r → descent m .exprsp r ≡ miss
+unfolding descent
 no-exprsp zero c-semi = refl
 no-exprsp (suc zero) c-semi = refl
 no-exprsp (suc (suc m)) c-semi = refl
@@ -105,185 +105,185 @@ no-exprsp zero c-rbr = refl
 no-exprsp (suc zero) c-rbr = refl
 no-exprsp (suc (suc m)) c-rbr = refl
 
-no-adr : (m p i : ℕ) (ts : List Word) → level m .expr (mark kLpar p ∷ mark kadr i ∷ ts) ≡ miss
-unfolding level
+no-adr : (m p i : ℕ) (ts : List Word) → descent m .expr (mark kLpar p ∷ mark kadr i ∷ ts) ≡ miss
+unfolding descent
 no-adr zero p i ts = refl
 no-adr (suc zero) p i ts = refl
 no-adr (suc (suc m)) p i ts = refl
 
-no-if : (m i : ℕ) (ts : List Word) → level m .expr (mark kif i ∷ ts) ≡ miss
-unfolding level
+no-if : (m i : ℕ) (ts : List Word) → descent m .expr (mark kif i ∷ ts) ≡ miss
+unfolding descent
 no-if zero i ts = refl
 no-if (suc m) i ts = refl
 
-no-and : (m i : ℕ) (ts : List Word) → level m .expr (mark kand i ∷ ts) ≡ miss
-unfolding level
+no-and : (m i : ℕ) (ts : List Word) → descent m .expr (mark kand i ∷ ts) ≡ miss
+unfolding descent
 no-and zero i ts = refl
 no-and (suc m) i ts = refl
 
-no-or : (m i : ℕ) (ts : List Word) → level m .expr (mark kor i ∷ ts) ≡ miss
-unfolding level
+no-or : (m i : ℕ) (ts : List Word) → descent m .expr (mark kor i ∷ ts) ≡ miss
+unfolding descent
 no-or zero i ts = refl
 no-or (suc m) i ts = refl
 
 down-block : {p i : ℕ} {c : TreeOf CMDS} {ts r : List Word} → Fact CMDS c ts (mark kRbr i ∷ r) → Fact BLOCK (block p c) (mark kLbr p ∷ ts) r
-unfolding level
+unfolding descent
 down-block h = record { less = omega (arith, h .less); get = λ m b. rw (useCmds h _ lit m (omega (arith, b))) refl }
 
 down-last : {a : TreeOf STAT} {ts r : List Word} → Fact STAT a ts r → Fact CMDS (last a) ts r
-unfolding level
+unfolding descent
 down-last h = record { less = omega (arith, h .less); get = λ r′ c m b. rw (h .get (closes c) m (omega (arith, b)), no-semi c) refl }
 
 down-def-then : {i : ℕ} {d : TreeOf DEF} {c : TreeOf CMDS} {ts us r : List Word} → Fact DEF d ts (mark kSemi i ∷ us) → Fact CMDS c us r → Fact CMDS (def-then d c) ts r
-unfolding level
-down-def-then h k = record { less = omega (arith, h .less, k .less); get = λ r′ c m b. rw (h .get .0 (level m), h .get .1 m (omega (arith, b, k .less)), useCmds k _ c m (omega (arith, b, h .less))) refl }
+unfolding descent
+down-def-then h k = record { less = omega (arith, h .less, k .less); get = λ r′ c m b. rw (h .get .0 (descent m), h .get .1 m (omega (arith, b, k .less)), useCmds k _ c m (omega (arith, b, h .less))) refl }
 
 down-stat-then : {i : ℕ} {a : TreeOf STAT} {c : TreeOf CMDS} {ts us r : List Word} → Fact STAT a ts (mark kSemi i ∷ us) → Fact CMDS c us r → Fact CMDS (stat-then a c) ts r
-unfolding level
+unfolding descent
 down-stat-then h k = record { less = omega (arith, h .less, k .less); get = λ r′ c m b. rw (h .get c-semi m (omega (arith, b, k .less)), useCmds k _ c m (omega (arith, b, h .less))) refl }
 
 down-const : {p : ℕ} {x : Ident} {t : TreeOf TYPE} {e : TreeOf EXPR} {ts us r : List Word} → Fact TYPE t ts us → Fact EXPR e us r → Fact DEF (const p x t e) (mark kCONST p ∷ named x ∷ ts) r
-unfolding level
+unfolding descent
 down-const h k = record { less = omega (arith, h .less, k .less); get = (λ L. refl, λ m b. rw (useType h m (omega (arith, b, k .less)), useExpr k m (omega (arith, b, h .less))) refl) }
 
 down-fun : {p i j : ℕ} {x : Ident} {t : TreeOf TYPE} {a : TreeOf ARGS} {e : TreeOf EXPR} {ts us vs r : List Word} → Fact TYPE t ts (mark kLbr i ∷ us) → Fact ARGS a us (mark kRbr j ∷ vs) → Fact EXPR e vs r → Fact DEF (fun p x t a e) (mark kFUN p ∷ named x ∷ ts) r
-unfolding level
+unfolding descent
 down-fun h k l = record { less = omega (arith, h .less, k .less, l .less); get = (λ L. refl, λ m b. rw (useType h m (omega (arith, b, k .less, l .less)), useArgs k _ lit m (omega (arith, b, h .less, l .less)), useExpr l m (omega (arith, b, h .less, k .less))) refl) }
 
 down-fun-rec : {p i j k : ℕ} {x : Ident} {t : TreeOf TYPE} {a : TreeOf ARGS} {e : TreeOf EXPR} {ts us vs r : List Word} → Fact TYPE t ts (mark kLbr j ∷ us) → Fact ARGS a us (mark kRbr k ∷ vs) → Fact EXPR e vs r → Fact DEF (fun-rec p x t a e) (mark kFUN p ∷ mark kREC i ∷ named x ∷ ts) r
-unfolding level
+unfolding descent
 down-fun-rec h k l = record { less = omega (arith, h .less, k .less, l .less); get = (λ L. refl, λ m b. rw (useType h m (omega (arith, b, k .less, l .less)), useArgs k _ lit m (omega (arith, b, h .less, l .less)), useExpr l m (omega (arith, b, h .less, k .less))) refl) }
 
 down-var : {p : ℕ} {x : Ident} {t : TreeOf TYPE} {ts r : List Word} → Fact TYPE t ts r → Fact DEF (var p x t) (mark kVAR p ∷ named x ∷ ts) r
-unfolding level
+unfolding descent
 down-var h = record { less = omega (arith, h .less); get = (λ L. refl, λ m b. rw (useType h m (omega (arith, b))) refl) }
 
 down-proc : {p i j : ℕ} {x : Ident} {a : TreeOf ARGSP} {b : TreeOf BLOCK} {ts us r : List Word} → Fact ARGSP a ts (mark kRbr j ∷ us) → Fact BLOCK b us r → Fact DEF (proc p x a b) (mark kPROC p ∷ named x ∷ mark kLbr i ∷ ts) r
-unfolding level
+unfolding descent
 down-proc h k = record { less = omega (arith, h .less, k .less); get = (λ L. refl, λ m b. rw (useArgsP h _ lit m (omega (arith, b, k .less)), useBlock k m (omega (arith, b, h .less))) refl) }
 
 down-proc-rec : {p i j k : ℕ} {x : Ident} {a : TreeOf ARGSP} {b : TreeOf BLOCK} {ts us r : List Word} → Fact ARGSP a ts (mark kRbr k ∷ us) → Fact BLOCK b us r → Fact DEF (proc-rec p x a b) (mark kPROC p ∷ mark kREC i ∷ named x ∷ mark kLbr j ∷ ts) r
-unfolding level
+unfolding descent
 down-proc-rec h k = record { less = omega (arith, h .less, k .less); get = (λ L. refl, λ m b. rw (useArgsP h _ lit m (omega (arith, b, k .less)), useBlock k m (omega (arith, b, h .less))) refl) }
 
 down-bool : {p : ℕ} {r : List Word} → Fact TYPE (bool p) (mark kbool p ∷ r) r
-unfolding level
+unfolding descent
 down-bool = record { less = omega (arith); get = λ m b. refl }
 
 down-int : {p : ℕ} {r : List Word} → Fact TYPE (int p) (mark kint p ∷ r) r
-unfolding level
+unfolding descent
 down-int = record { less = omega (arith); get = λ m b. refl }
 
 down-arrow : {p i j : ℕ} {a : TreeOf TYPES} {t : TreeOf TYPE} {ts us r : List Word} → Fact TYPES a ts (mark kArrow i ∷ us) → Fact TYPE t us (mark kRpar j ∷ r) → Fact TYPE (arrow p a t) (mark kLpar p ∷ ts) r
-unfolding level
+unfolding descent
 down-arrow h k = record { less = omega (arith, h .less, k .less); get = λ m b. rw (useTypes h _ lit m (omega (arith, b, k .less)), useType k m (omega (arith, b, h .less))) refl }
 
 down-one-type : {t : TreeOf TYPE} {ts r : List Word} → Fact TYPE t ts r → Fact TYPES (one-type t) ts r
-unfolding level
+unfolding descent
 down-one-type h = record { less = omega (arith, h .less); get = λ r′ c m b. rw (useType h m (omega (arith, b)), no-star c) refl }
 
 down-more-types : {i : ℕ} {t : TreeOf TYPE} {a : TreeOf TYPES} {ts us r : List Word} → Fact TYPE t ts (mark kStar i ∷ us) → Fact TYPES a us r → Fact TYPES (more-types t a) ts r
-unfolding level
+unfolding descent
 down-more-types h k = record { less = omega (arith, h .less, k .less); get = λ r′ c m b. rw (useType h m (omega (arith, b, k .less)), useTypes k _ c m (omega (arith, b, h .less))) refl }
 
 down-arg : {i : ℕ} {x : Ident} {t : TreeOf TYPE} {ts r : List Word} → Fact TYPE t ts r → Fact ARG (arg x t) (named x ∷ mark kColon i ∷ ts) r
-unfolding level
+unfolding descent
 down-arg h = record { less = omega (arith, h .less); get = λ m b. rw (useType h m (omega (arith, b))) refl }
 
 down-one-arg : {a : TreeOf ARG} {ts r : List Word} → Fact ARG a ts r → Fact ARGS (a ∷ []) ts r
-unfolding level
+unfolding descent
 down-one-arg h = record { less = omega (arith, h .less); get = λ r′ c m b. rw (h .get m (omega (arith, b)), no-comma c) refl }
 
 down-more-args : {i : ℕ} {a : TreeOf ARG} {b : TreeOf ARGS} {ts us r : List Word} → Fact ARG a ts (mark kComma i ∷ us) → Fact ARGS b us r → Fact ARGS (a ∷ b) ts r
-unfolding level
+unfolding descent
 down-more-args h k = record { less = omega (arith, h .less, k .less); get = λ r′ c m b. rw (h .get m (omega (arith, b, k .less)), useArgs k _ c m (omega (arith, b, h .less))) refl }
 
 down-val-arg : {i : ℕ} {x : Ident} {t : TreeOf TYPE} {ts r : List Word} → Fact TYPE t ts r → Fact ARGP (val-arg x t) (named x ∷ mark kColon i ∷ ts) r
-unfolding level
+unfolding descent
 down-val-arg h = record { less = omega (arith, h .less); get = λ m b. rw (useType h m (omega (arith, b))) refl }
 
 down-var-arg : {i j : ℕ} {x : Ident} {t : TreeOf TYPE} {ts r : List Word} → Fact TYPE t ts r → Fact ARGP (var-arg x t) (mark kvar i ∷ named x ∷ mark kColon j ∷ ts) r
-unfolding level
+unfolding descent
 down-var-arg h = record { less = omega (arith, h .less); get = λ m b. rw (useType h m (omega (arith, b))) refl }
 
 down-one-argp : {a : TreeOf ARGP} {ts r : List Word} → Fact ARGP a ts r → Fact ARGSP (a ∷ []) ts r
-unfolding level
+unfolding descent
 down-one-argp h = record { less = omega (arith, h .less); get = λ r′ c m b. rw (h .get m (omega (arith, b)), no-comma c) refl }
 
 down-more-argsp : {i : ℕ} {a : TreeOf ARGP} {b : TreeOf ARGSP} {ts us r : List Word} → Fact ARGP a ts (mark kComma i ∷ us) → Fact ARGSP b us r → Fact ARGSP (a ∷ b) ts r
-unfolding level
+unfolding descent
 down-more-argsp h k = record { less = omega (arith, h .less, k .less); get = λ r′ c m b. rw (h .get m (omega (arith, b, k .less)), useArgsP k _ c m (omega (arith, b, h .less))) refl }
 
 down-echo : {p : ℕ} {e : TreeOf EXPR} {ts r : List Word} → Fact EXPR e ts r → Fact STAT (echo p e) (mark kECHO p ∷ ts) r
-unfolding level
+unfolding descent
 down-echo h = record { less = omega (arith, h .less); get = λ c m b. rw (useExpr h m (omega (arith, b))) refl }
 
 down-set : {p : ℕ} {x : Ident} {e : TreeOf EXPR} {ts r : List Word} → Fact EXPR e ts r → Fact STAT (set p x e) (mark kSET p ∷ named x ∷ ts) r
-unfolding level
+unfolding descent
 down-set h = record { less = omega (arith, h .less); get = λ c m b. rw (useExpr h m (omega (arith, b))) refl }
 
 down-if-stat : {p : ℕ} {e : TreeOf EXPR} {b c : TreeOf BLOCK} {ts us vs r : List Word} → Fact EXPR e ts us → Fact BLOCK b us vs → Fact BLOCK c vs r → Fact STAT (if-stat p e b c) (mark kIF p ∷ ts) r
-unfolding level
+unfolding descent
 down-if-stat h k l = record { less = omega (arith, h .less, k .less, l .less); get = λ c m b. rw (useExpr h m (omega (arith, b, k .less, l .less)), useBlock k m (omega (arith, b, h .less, l .less)), useBlock l m (omega (arith, b, h .less, k .less))) refl }
 
 down-while : {p : ℕ} {e : TreeOf EXPR} {b : TreeOf BLOCK} {ts us r : List Word} → Fact EXPR e ts us → Fact BLOCK b us r → Fact STAT (while p e b) (mark kWHILE p ∷ ts) r
-unfolding level
+unfolding descent
 down-while h k = record { less = omega (arith, h .less, k .less); get = λ c m b. rw (useExpr h m (omega (arith, b, k .less)), useBlock k m (omega (arith, b, h .less))) refl }
 
 down-call : {p : ℕ} {x : Ident} {a : TreeOf EXPRSP} {ts r : List Word} → Fact EXPRSP a ts r → Fact STAT (call p x a) (mark kCALL p ∷ named x ∷ ts) r
-unfolding level
+unfolding descent
 down-call h = record { less = omega (arith, h .less); get = λ c m b. rw (useExprsP h c m (omega (arith, b))) refl }
 
 down-one-exprp : {a : TreeOf EXPRP} {ts r : List Word} → Fact EXPRP a ts r → Fact EXPRSP (a ∷ []) ts r
-unfolding level
+unfolding descent
 down-one-exprp h = record { less = omega (arith, h .less); get = λ c m b. rw (h .get m (omega (arith, b)), no-exprsp m c) refl }
 
 down-more-exprsp : {a : TreeOf EXPRP} {b : TreeOf EXPRSP} {ts us r : List Word} → Fact EXPRP a ts us → Fact EXPRSP b us r → Fact EXPRSP (a ∷ b) ts r
-unfolding level
+unfolding descent
 down-more-exprsp h k = record { less = omega (arith, h .less, k .less); get = λ c m b. rw (h .get m (omega (arith, b, k .less)), useExprsP k c m (omega (arith, b, h .less))) refl }
 
 down-val : {e : TreeOf EXPR} {ts r : List Word} → Fact EXPR e ts r → Fact EXPRP (val e) ts r
-unfolding level
+unfolding descent
 down-val h = record { less = omega (arith, h .less); get = λ m b. rw (useExpr h m (omega (arith, b))) refl }
 
 down-adr : {p i j : ℕ} {x : Ident} {r : List Word} → Fact EXPRP (adr p x) (mark kLpar p ∷ mark kadr i ∷ named x ∷ mark kRpar j ∷ r) r
-unfolding level
+unfolding descent
 down-adr {p = p} {i = i} {j = j} {x = x} {r = r} = record { less = omega (arith); get = λ m b. rw (no-adr m p i (named x ∷ mark kRpar j ∷ r)) refl }
 
 down-num : {p : ℕ} {z : ℤ} {r : List Word} → Fact EXPR (num p z) (number p z ∷ r) r
-unfolding level
+unfolding descent
 down-num = record { less = omega (arith); get = λ m b. refl }
 
 down-name : {x : Ident} {r : List Word} → Fact EXPR (name x) (named x ∷ r) r
-unfolding level
+unfolding descent
 down-name = record { less = omega (arith); get = λ m b. refl }
 
 down-if-expr : {p i j : ℕ} {e f g : TreeOf EXPR} {ts us vs r : List Word} → Fact EXPR e ts us → Fact EXPR f us vs → Fact EXPR g vs (mark kRpar j ∷ r) → Fact EXPR (if-expr p e f g) (mark kLpar p ∷ mark kif i ∷ ts) r
-unfolding level
+unfolding descent
 down-if-expr {i = i} {ts = ts} h k l = record { less = omega (arith, h .less, k .less, l .less); get = λ m b. rw (no-if m i ts, useExpr h m (omega (arith, b, k .less, l .less)), useExpr k m (omega (arith, b, h .less, l .less)), useExpr l m (omega (arith, b, h .less, k .less))) refl }
 
 down-and : {p i j : ℕ} {e f : TreeOf EXPR} {ts us r : List Word} → Fact EXPR e ts us → Fact EXPR f us (mark kRpar j ∷ r) → Fact EXPR (and p e f) (mark kLpar p ∷ mark kand i ∷ ts) r
-unfolding level
+unfolding descent
 down-and {i = i} {ts = ts} h k = record { less = omega (arith, h .less, k .less); get = λ m b. rw (no-and m i ts, useExpr h m (omega (arith, b, k .less)), useExpr k m (omega (arith, b, h .less))) refl }
 
 down-or : {p i j : ℕ} {e f : TreeOf EXPR} {ts us r : List Word} → Fact EXPR e ts us → Fact EXPR f us (mark kRpar j ∷ r) → Fact EXPR (or p e f) (mark kLpar p ∷ mark kor i ∷ ts) r
-unfolding level
+unfolding descent
 down-or {i = i} {ts = ts} h k = record { less = omega (arith, h .less, k .less); get = λ m b. rw (no-or m i ts, useExpr h m (omega (arith, b, k .less)), useExpr k m (omega (arith, b, h .less))) refl }
 
 down-app : {p i : ℕ} {e : TreeOf EXPR} {a : TreeOf EXPRS} {ts us r : List Word} → Fact EXPR e ts us → Fact EXPRS a us (mark kRpar i ∷ r) → Fact EXPR (app p e a) (mark kLpar p ∷ ts) r
-unfolding level
+unfolding descent
 down-app h k = record { less = omega (arith, h .less, k .less); get = λ m b. rw (useExpr h m (omega (arith, b, k .less)), useExprs k _ lit m (omega (arith, b, h .less))) refl }
 
 down-abs : {p i : ℕ} {a : TreeOf ARGS} {e : TreeOf EXPR} {ts us r : List Word} → Fact ARGS a ts (mark kRbr i ∷ us) → Fact EXPR e us r → Fact EXPR (abs p a e) (mark kLbr p ∷ ts) r
-unfolding level
+unfolding descent
 down-abs h k = record { less = omega (arith, h .less, k .less); get = λ m b. rw (useArgs h _ lit m (omega (arith, b, k .less)), useExpr k m (omega (arith, b, h .less))) refl }
 
 down-one-expr : {e : TreeOf EXPR} {ts r : List Word} → Fact EXPR e ts r → Fact EXPRS (one-expr e) ts r
-unfolding level
+unfolding descent
 down-one-expr h = record { less = omega (arith, h .less); get = λ r′ c m b. rw (useExpr h m (omega (arith, b)), no-exprs m c) refl }
 
 down-more-exprs : {e : TreeOf EXPR} {a : TreeOf EXPRS} {ts us r : List Word} → Fact EXPR e ts us → Fact EXPRS a us r → Fact EXPRS (more-exprs e a) ts r
-unfolding level
+unfolding descent
 down-more-exprs h k = record { less = omega (arith, h .less, k .less); get = λ r′ c m b. rw (useExpr h m (omega (arith, b, k .less)), useExprs k _ c m (omega (arith, b, h .less))) refl }
 
 descends : {k : Sort} {e : TreeOf k} {ts r : List Word} → Reads k e ts r → Fact k e ts r

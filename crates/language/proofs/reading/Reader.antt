@@ -9,7 +9,7 @@ use Rattle.language.specs.Answers.{TOKENS, SYNTAX, LEVEL, Result, fine, 
 use Rattle.language.specs.Words.{Word, place-word, wordsOf, most}
 use Rattle.language.specs.Levels.{deepest}
 use Rattle.language.specs.Reading.{placeIn}
-use Rattle.language.proofs.reading.Machine.{Ran, through, stuck, whole}
+use Rattle.language.proofs.reading.Machine.{Parsed, through, stuck, whole}
 use Rattle.language.proofs.reading.Descent.{Got, miss, got, treeOf}
 
 -- the word after the first n
@@ -24,7 +24,7 @@ deep [] ts = none
 deep (l ∷ ls) [] = none
 deep (l ∷ ls) (x ∷ ts) = cond (ltb deepest l) (some x) (deep ls ts)
 
-abbrev pub levelsIn : Ran → List ℕ
+abbrev pub levelsIn : Parsed → List ℕ
 levelsIn (through t o) = o
 levelsIn (stuck rest o) = o
 
@@ -32,16 +32,16 @@ abbrev pub accept : Got Block → (Result Block)
 accept miss = refuse SYNTAX 0
 accept (got b r) = fine b
 
-abbrev pub ended : List ℕ → List Word → Ran → (Result Block)
+abbrev pub ended : List ℕ → List Word → Parsed → (Result Block)
 ended s ts (through t o) = accept (treeOf ts)
 ended s ts (stuck rest o) = refuse SYNTAX (placeIn s rest)
 
-abbrev pub judged : List ℕ → List Word → Ran → Option Word → (Result Block)
-judged s ts r none = ended s ts r
-judged s ts r (some x) = refuse LEVEL (place-word x)
+abbrev pub levelled : List ℕ → List Word → Parsed → Option Word → (Result Block)
+levelled s ts r none = ended s ts r
+levelled s ts r (some x) = refuse LEVEL (place-word x)
 
 abbrev pub counted : List ℕ → List Word → Option Word → (Result Block)
-counted s ts none = judged s ts (whole ts) (deep (levelsIn (whole ts)) ts)
+counted s ts none = levelled s ts (whole ts) (deep (levelsIn (whole ts)) ts)
 counted s ts (some x) = refuse TOKENS (place-word x)
 
 abbrev pub scanned : List ℕ → (Result (List Word)) → (Result Block)

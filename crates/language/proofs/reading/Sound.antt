@@ -12,7 +12,7 @@ use Rattle.language.specs.Syntax.{Ident}
 use Rattle.language.specs.Words.{Mark, kLbr, kRbr, kLpar, kRpar, kSemi, kColon, kComma, kStar, kArrow, kCONST, kFUN, kREC, kVAR, kPROC, kECHO, kSET, kIF, kWHILE, kCALL, kif, kand, kor, kbool, kint, kvar, kadr, Word, mark, number, named, place-word}
 use Rattle.language.specs.Grammar.{Sort, BLOCK, CMDS, DEF, STAT, TYPE, TYPES, ARG, ARGS, ARGP, ARGSP, EXPR, EXPRS, EXPRP, EXPRSP, TreeOf, Reads, r-block, r-last, r-def-then, r-stat-then, r-const, r-fun, r-fun-rec, r-var, r-proc, r-proc-rec, r-bool, r-int, r-arrow, r-one-type, r-more-types, r-arg, r-one-arg, r-more-args, r-val-arg, r-var-arg, r-one-argp, r-more-argsp, r-echo, r-set, r-if-stat, r-while, r-call, r-one-exprp, r-more-exprsp, r-val, r-adr, r-num, r-name, r-if-expr, r-and, r-or, r-app, r-abs, r-one-expr, r-more-exprs, Program}
 use Rattle.language.specs.Table.{Node}
-use Rattle.language.proofs.reading.Machine.{code, tNum, tName, tag, Sym, sBlock, sBody, sTail, sSemi, sCN, sCT, sExpr, sFunH, sFN, sFT, sFL, sArg1, sArg0, sColon, sType, sVN, sProcH, sPN, sPL, sArgp1, sArgp0, sVarN, sSN, sIC, sIB, sWC, sKN, sK1, sK0, sParen, sParenP, sE3, sE2, sE1, sRP, sArgs1, sArgs0, sAN, sTs1, sTs0, sTR, Ctx, Entry, ent, places, follow, Rule, rule, thn, name-rules, type-rules, block-rules, expr-rules, exprp-rules, arg-rules, argp-rules, paren-rules, adr-rules, rec-rules, args-rules, call-rules, body-rules, rules, pick, Ran, through, stuck, parse, start, whole}
+use Rattle.language.proofs.reading.Machine.{code, tNum, tName, tag, Sym, sBlock, sBody, sTail, sSemi, sCN, sCT, sExpr, sFunH, sFN, sFT, sFL, sArg1, sArg0, sColon, sType, sVN, sProcH, sPN, sPL, sArgp1, sArgp0, sVarN, sSN, sIC, sIB, sWC, sKN, sK1, sK0, sParen, sParenP, sE3, sE2, sE1, sRP, sArgs1, sArgs0, sAN, sTs1, sTs0, sTR, Ctx, Entry, ent, places, follow, Rule, rule, thn, name-rules, type-rules, block-rules, expr-rules, exprp-rules, arg-rules, argp-rules, paren-rules, adr-rules, rec-rules, args-rules, call-rules, body-rules, rules, pick, Parsed, through, stuck, parse, start, whole}
 use Rattle.language.proofs.reading.Complete.{Lit, lit}
 use Rattle.language.proofs.reading.Machine
 
@@ -453,7 +453,7 @@ picked x X (rule j a f ns ∷ rs) h ρ e = go (eqb (tag x) j) refl e (λ e′. p
     go false t e′ ih = ih e′
 
 no-stop : {ts : List Word} {l o : List ℕ} {t : List Node} → stuck ts l ≡ through t o → ⊥
-no-stop e = subst (λ (r : Ran). elim r as (λ _. Type 0) [ through t o ↦ ⊥ | stuck ts l ↦ Unit {0} ]) e tt
+no-stop e = subst (λ (r : Parsed). elim r as (λ _. Type 0) [ through t o ↦ ⊥ | stuck ts l ↦ Unit {0} ]) e tt
 
 fits : (ts : List Word) (s : List Entry) (t : List Node) (ls : List ℕ → List ℕ) (t′ : List Node) (o : List ℕ) → parse ts s t ls ≡ through t′ o → Fits s ts
 unfolding parse
@@ -464,7 +464,7 @@ fits (x ∷ ts) (ent X q u ∷ s) t ls t′ o e = go (pick (tag x) (rules X)) re
   where
     go : (c : Option Rule)
         → pick (tag x) (rules X) ≡ c
-        → elim c as (λ _. Ran) [ none ↦ stuck (x ∷ ts) (ls []) | some ρ ↦ Machine.fire ρ (place-word x) q u s t ls (λ s′ t′ l. parse ts s′ t′ l) ] ≡ through t′ o
+        → elim c as (λ _. Parsed) [ none ↦ stuck (x ∷ ts) (ls []) | some ρ ↦ Machine.fire ρ (place-word x) q u s t ls (λ s′ t′ l. parse ts s′ t′ l) ] ≡ through t′ o
         → ((s′ : List Entry) (tab : List Node) (l : List ℕ → List ℕ) → parse ts s′ tab l ≡ through t′ o → Fits s′ ts)
         → Fits (ent X q u ∷ s) (x ∷ ts)
     go none c e′ ih = absurd (no-stop e′)

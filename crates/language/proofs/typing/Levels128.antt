@@ -12,7 +12,8 @@ use Rattle.language.specs.Names.{Op, Meaning, literal, operator, free, l
 use Rattle.language.specs.Types.{Ty, base, fn, Tys, tnil, tcons, typeOf, typesOf, Par, value, ref, Entity, plain, procedure, Ctx, find, extend, values, par, declared, arg-types, fun-type}
 use Rattle.language.specs.Typing.{HasE, NUM, LITERAL, IDV, IDR, IF, AND, OR, PRIM, APP, ABS}
 use Rattle.language.specs.Order.{JudgedNode, expr-node, adr-node, param-node, def-node, stat-node, after-def, nodes-params, nodes-head, nodes-expr, nodes-exprs, nodes-arg, nodes-args, nodes-block, nodes-cmds, nodes-def, nodes-stat}
-use Rattle.language.proofs.typing.Nesting.{Opened, FitsType, FitsTypes, FitsParam, FitsParams, FitsExpr, FitsExprs, FitsArg, FitsArgs, FitsBlock, FitsCmds, FitsDef, FitsStat, TyFits, TysFit, AllNodes, no-node, one-more, Comparable}
+use Rattle.language.specs.Claims.{Opened, TyFits, TysFit, AllNodes, no-node, one-more, Comparable}
+use Rattle.language.proofs.typing.Nesting.{FitsType, FitsTypes, FitsParam, FitsParams, FitsExpr, FitsExprs, FitsArg, FitsArgs, FitsBlock, FitsCmds, FitsDef, FitsStat}
 
 -- more levels fit as well
 opened-up : (a b : ℕ) {P Q : ℕ → Type 0} → a ≤ b → ((m n : ℕ) → m ≤ n → P m → Q n) → Opened a P → Opened b Q

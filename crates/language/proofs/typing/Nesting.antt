@@ -1,16 +1,10 @@
 -- Levels (document 01): a block, a parenthesised expression, an (adr x), an abstraction to the end of its body, and a function type each open one level.
 -- Parameter lists open none. A tree fits n levels when it opens no more than n, one inside another.
-use Prim.Native.Nat.{ℕ, zero, suc}
+use Prim.Native.Nat.{ℕ}
 use mathlib.Core.List.{List, [], _∷_}
 use Rattle.language.specs.Syntax.{TypeTree, bool, int, arrow, TypeTrees, one-type, more-types, ArgP, val-arg, var-arg, Expr, num, name, if-expr, and, or, app, abs, Exprs, one-expr, more-exprs, ExprP, val, adr, Cmds, last, def-then, stat-then, Def, const, fun, fun-rec, var, proc, proc-rec, Stat, echo, set, if-stat, while, call, Block, block}
-use Rattle.language.specs.Types.{Ty, base, fn, Tys, tnil, tcons, values}
-use Rattle.language.specs.Typing.{HasE}
-use Rattle.language.specs.Order.{JudgedNode, expr-node, adr-node, param-node, def-node, stat-node}
-
--- a level is opened: there is one, and the parts fit what is left
-abbrev pub Opened : ℕ → (ℕ → Type 0) → Type 0
-Opened zero parts = ⊥
-Opened (suc n) parts = parts n
+use Rattle.language.specs.Types.{values}
+use Rattle.language.specs.Claims.{Opened}
 
 abbrev mutual
   pub FitsType : TypeTree → ℕ → Type 0
@@ -75,26 +69,3 @@ abbrev mutual
   FitsStat (if-stat p e a b) n = FitsExpr e n × FitsBlock a n × FitsBlock b n
   FitsStat (while p e b) n = FitsExpr e n × FitsBlock b n
   FitsStat (call p x as′) n = FitsArgs as′ n
-
--- a type of no more than n levels
-abbrev mutual
-  pub TyFits : Ty → ℕ → Type 0
-  TyFits (base b) n = Unit {0}
-  TyFits (fn ts t) n = Opened n λ m. TysFit ts m × TyFits t m
-
-  pub TysFit : Tys → ℕ → Type 0
-  TysFit tnil n = Unit {0}
-  TysFit (tcons t ts) n = TyFits t n × TysFit ts n
-
--- every node of a list is so
-pub data AllNodes (P : JudgedNode → Type 0) : List JudgedNode → Type 0 where
-  no-node : AllNodes P []
-  one-more : {n : JudgedNode} {l : List JudgedNode} → P n → AllNodes P l → AllNodes P (n ∷ l)
-
--- every type that an expression's node can have is of no more than 128 levels
-abbrev pub Comparable : JudgedNode → Type 0
-Comparable (expr-node Γ e) = (t : Ty) → HasE Γ e t → TyFits t 128
-Comparable (adr-node Γ p x) = Unit {0}
-Comparable (param-node a) = Unit {0}
-Comparable (def-node Γ d) = Unit {0}
-Comparable (stat-node Γ c) = Unit {0}

@@ -1,0 +1,144 @@
+-- What is claimed of the language, each claim as a type with a sentence; proofs/Claims.antt proves each.
+use mathlib.Core.Path.{_≡_}
+use mathlib.Core.Logic.{_↔_, _⊎_}
+use Prim.Native.Nat.{ℕ, suc, _≤_, zero}
+use mathlib.Core.List.{List, [], _∷_, _++_}
+use mathlib.Core.Option.{some}
+use lib.IntN.{ℤ}
+use lib.ListN.{length}
+use Rattle.language.specs.Syntax.{at, Expr, name, last, echo, while, Block, block}
+use Rattle.language.specs.Bytes.{bytesOf}
+use Rattle.language.specs.Answers.{Stop, done, stopped, Result, fine}
+use Rattle.language.specs.Words.{Word, wordsOf, most}
+use Rattle.language.specs.Grammar.{BLOCK, Reads}
+use Rattle.language.specs.Table.{table}
+use Rattle.language.specs.Levels.{levels, deepest}
+use Rattle.language.specs.Reading.{Opens, Within, Reading}
+use Rattle.language.specs.Types.{Ty, base, fn, Tys, tnil, tcons, Ctx}
+use Rattle.language.specs.Typing.{HasE, Typable}
+use Rattle.language.specs.Order.{JudgedNode, expr-node, adr-node, param-node, def-node, stat-node, nodes-block, TypeRefused}
+use Rattle.language.specs.Limits.{Limits, greatest-limits, _⊑_}
+use Rattle.language.specs.Rules.{Env, State, ok, bind, need, branch, enter, as-truth, in-block, level, run}
+use Rattle.language.specs.Outcome.{state-of, end-of, NoRule, NotLimited, InLimits, UsedUp}
+use Rattle.language.specs.Promises.{Verdict, tree-words, Lent, Checked, Check, Ran, Run}
+use Rattle.language.specs.Desk.{AllHold, desk}
+
+-- ---- texts
+
+-- A text is accepted exactly when the grammar yields it within the limits and a typing exists.
+abbrev pub AcceptedExactly : Type 0
+AcceptedExactly = (s : List ℕ) (b : Block) →
+    Verdict s (fine b) ↔
+    ((ts : List Word) × (wordsOf s ≡ fine ts) × (length ts ≤ most) × Reads BLOCK b ts [] × Within deepest (levels b) × Typable b)
+
+-- Every text has one verdict.
+abbrev pub OneVerdict : Type 0
+OneVerdict = (s : List ℕ) → ((v : Result Block) × Verdict s v) × ((v w : Result Block) → Verdict s v → Verdict s w → v ≡ w)
+
+-- Words have at most one tree.
+abbrev pub OneTree : Type 0
+OneTree = (ts : List Word) (b c : Block) → Reads BLOCK b ts [] → Reads BLOCK c ts [] → b ≡ c
+
+-- In all programs that begin with the same words, these open the same levels: "some program" in the definition of LEVEL is "every program".
+abbrev pub OneLevels : Type 0
+OneLevels = (pre : List Word) (ls ms : List ℕ) → Opens pre ls → Opens pre ms → ls ≡ ms
+
+-- The tree of a text that is read has room in the tree table.
+abbrev pub TreeFits : Type 0
+TreeFits = (s : List ℕ) (b : Block) → Reading s (fine b) → length (table b) ≤ tree-words
+
+-- A tree is typed, or refused at one place, and never both.
+abbrev pub TypedOrRefused : Type 0
+TypedOrRefused = (b : Block) →
+    (Typable b ⊎ ((q : ℕ) × TypeRefused b q)) × ((q : ℕ) → Typable b → TypeRefused b q → ⊥) × ((q q′ : ℕ) → TypeRefused b q → TypeRefused b q′ → q ≡ q′)
+
+-- An expression has at most one type.
+abbrev pub UniqueTypes : Type 0
+UniqueTypes = (Γ : Ctx) (e : Expr) (t u : Ty) → HasE Γ e t → HasE Γ e u → t ≡ u
+
+-- a level is opened: one is left for it, and the parts fit the others
+abbrev pub Opened : ℕ → (ℕ → Type 0) → Type 0
+Opened zero parts = ⊥
+Opened (suc n) parts = parts n
+
+-- a type of no more than n levels
+abbrev mutual
+  pub TyFits : Ty → ℕ → Type 0
+  TyFits (base b) n = Unit {0}
+  TyFits (fn ts t) n = Opened n λ m. TysFit ts m × TyFits t m
+
+  pub TysFit : Tys → ℕ → Type 0
+  TysFit tnil n = Unit {0}
+  TysFit (tcons t ts) n = TyFits t n × TysFit ts n
+
+-- every node of a list is so
+pub data AllNodes (P : JudgedNode → Type 0) : List JudgedNode → Type 0 where
+  no-node : AllNodes P []
+  one-more : {n : JudgedNode} {l : List JudgedNode} → P n → AllNodes P l → AllNodes P (n ∷ l)
+
+-- every type that an expression's node can have is of no more than 128 levels
+abbrev pub Comparable : JudgedNode → Type 0
+Comparable (expr-node Γ e) = (t : Ty) → HasE Γ e t → TyFits t 128
+Comparable (adr-node Γ p x) = Unit {0}
+Comparable (param-node a) = Unit {0}
+Comparable (def-node Γ d) = Unit {0}
+Comparable (stat-node Γ c) = Unit {0}
+
+-- 128 levels are always enough to compare types: where no word opens a level past the 64th, no expression has a type of more.
+abbrev pub Levels128 : Type 0
+Levels128 = (b : Block) → Within deepest (levels b) → AllNodes Comparable (nodes-block [] b)
+
+-- ---- runs
+
+-- No accepted text reaches a state that no rule fits, under any limits.
+abbrev pub NeverStuck : Type 0
+NeverStuck = (s : List ℕ) (b : Block) → Verdict s (fine b) → (L : Limits) → ¬ NoRule (run L b)
+
+-- An accepted text's run ends as done or by one of the eight stops of document 01.
+abbrev pub EndsByTheTable : Type 0
+EndsByTheTable = (s : List ℕ) (b : Block) → Verdict s (fine b) → (L : Limits) →
+    (end-of (run L b) ≡ some done) ⊎ ((w : Stop) × (p : ℕ) × (end-of (run L b) ≡ some (stopped w p)))
+
+-- A run that no limit stopped is the same under larger limits: end, place, numbers and every count.
+abbrev pub SameUnderLargerLimits : Type 0
+SameUnderLargerLimits = (L L′ : Limits) → L ⊑ L′ → (b : Block) → NotLimited (run L b) → run L′ b ≡ run L b
+
+-- Whatever ends a run, its numbers are how the numbers under larger limits begin.
+abbrev pub NumbersBegin : Type 0
+NumbersBegin = (L L′ : Limits) → L ⊑ L′ → (b : Block) → (more : List ℤ) × (state-of (run L′ b) .numbers ≡ state-of (run L b) .numbers ++ more)
+
+-- No count passes its limit, whatever ends the run.
+abbrev pub CountsInLimits : Type 0
+CountsInLimits = (L : Limits) (b : Block) → InLimits L (state-of (run L b))
+
+-- FUEL, CELLS and OUTPUT are given only where the limit is used up: so the count that makes WHILE structural never ends a run.
+abbrev pub LimitIsUsedUp : Type 0
+LimitIsUsedUp = (L : Limits) (b : Block) → UsedUp L (run L b)
+
+-- 000's (LOOP0) and (LOOP1): after a round the WHILE is entered anew, at its own depth.
+abbrev pub WhileRule : Type 0
+WhileRule = (L : Limits) (d p : ℕ) (e : Expr) (b : Block) (ρ : Env) (s : State) →
+    level L (suc d) .stat (while p e b) ρ s ≡
+    enter L p s (λ s₁. bind (level L d .expr e ρ s₁) λ v s₂. need (as-truth v) p s₂ λ t.
+    branch t (bind (in-block (level L d) b ρ s₂) λ u s₃. level L (suc d) .stat (while p e b) ρ s₃) (ok tt s₂))
+
+-- Some tree does reach a state that no rule fits, so that NeverStuck says something: [ECHO y].
+abbrev pub NoRuleIsReached : Type 0
+NoRuleIsReached = NoRule (run greatest-limits (block 0 (last (echo 1 (name (at 6 (bytesOf "y")))))))
+
+-- ---- promises
+
+-- For every input CHECK has an answer and leaves something, and both are the only ones.
+abbrev pub OneCheck : Type 0
+OneCheck = (text tree : List ℕ) (works : List Lent) →
+    ((c : Checked) × Check text tree works c) × ((c c′ : Checked) → Check text tree works c → Check text tree works c′ → c ≡ c′)
+
+-- For every input RUN has an answer and leaves something, and both are the only ones.
+abbrev pub OneRun : Type 0
+OneRun = (L : Limits) (text tree : List ℕ) (works stores : List Lent) (output : List ℤ) →
+    ((r : Ran) × Run L text tree works stores output r) ×
+    ((r r′ : Ran) → Run L text tree works stores output r → Run L text tree works stores output r′ → r ≡ r′)
+
+-- The desk's table holds: reading, verdict and run, from its texts.
+abbrev pub DeskHolds : Type 0
+DeskHolds = AllHold desk
