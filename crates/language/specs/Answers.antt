@@ -29,32 +29,14 @@ pub data Result (A : Type 0) : Type 0 where
   refuse : Refusal → (place : ℕ) → Result A
 
 abbrev pub refusal-number : Refusal → ℕ
-refusal-number LENGTH = 1
-refusal-number LIMIT = 2
-refusal-number TABLE = 3
-refusal-number BYTE = 4
-refusal-number NUMBER = 5
-refusal-number TOKENS = 6
-refusal-number SYNTAX = 7
-refusal-number LEVEL = 8
-refusal-number TYPE = 9
+refusal-number = elim [ LENGTH ↦ 1 | LIMIT ↦ 2 | TABLE ↦ 3 | BYTE ↦ 4 | NUMBER ↦ 5 | TOKENS ↦ 6 | SYNTAX ↦ 7 | LEVEL ↦ 8 | TYPE ↦ 9 ]
 
 abbrev pub stop-number : Stop → ℕ
-stop-number (limit FUEL) = 20
-stop-number (limit DEPTH) = 21
-stop-number (limit CELLS) = 22
-stop-number (limit BINDINGS) = 23
-stop-number (limit OUTPUT) = 24
-stop-number (error RANGE) = 25
-stop-number (error ZERO) = 26
-stop-number (error UNSET) = 27
+stop-number =
+    elim [ limit FUEL ↦ 20 | limit DEPTH ↦ 21 | limit CELLS ↦ 22 | limit BINDINGS ↦ 23 | limit OUTPUT ↦ 24 | error RANGE ↦ 25 | error ZERO ↦ 26 | error UNSET ↦ 27 ]
 
 abbrev pub number-of : Answer → ℕ
-number-of done = 0
-number-of (refused r p) = refusal-number r
-number-of (stopped w p) = stop-number w
+number-of = elim [ done ↦ 0 | refused r p ↦ refusal-number r | stopped w p ↦ stop-number w ]
 
 abbrev pub place-of : Answer → ℕ
-place-of done = 0
-place-of (refused r p) = p
-place-of (stopped w p) = p
+place-of = elim [ done ↦ 0 | refused r p ↦ p | stopped w p ↦ p ]

@@ -28,160 +28,78 @@ TreeOf EXPRSP = List ExprP
 
 pub data Reads : (k : Sort) → TreeOf k → List Word → List Word → Type 0 where
   -- BLOCK ::= [ CMDS ]
-  r-block : {p i : ℕ} {c : Cmds} {ts r : List Word}
-      → Reads CMDS c ts (mark kRbr i ∷ r)
-      → Reads BLOCK (block p c) (mark kLbr p ∷ ts) r
-  -- CMDS ::= STAT
-  r-last : {a : Stat} {ts r : List Word}
-      → Reads STAT a ts r
-      → Reads CMDS (last a) ts r
-  --        | DEF ; CMDS
-  r-def-then : {i : ℕ} {d : Def} {c : Cmds} {ts us r : List Word}
-      → Reads DEF d ts (mark kSemi i ∷ us) → Reads CMDS c us r
+  r-block : {p i : ℕ} {c : Cmds} {ts r : List Word} → Reads CMDS c ts (mark kRbr i ∷ r) → Reads BLOCK (block p c) (mark kLbr p ∷ ts) r
+  -- CMDS ::= STAT | DEF ; CMDS | STAT ; CMDS
+  r-last : {a : Stat} {ts r : List Word} → Reads STAT a ts r → Reads CMDS (last a) ts r
+  r-def-then : {i : ℕ} {d : Def} {c : Cmds} {ts us r : List Word} → Reads DEF d ts (mark kSemi i ∷ us) → Reads CMDS c us r
       → Reads CMDS (def-then d c) ts r
-  --        | STAT ; CMDS
-  r-stat-then : {i : ℕ} {a : Stat} {c : Cmds} {ts us r : List Word}
-      → Reads STAT a ts (mark kSemi i ∷ us) → Reads CMDS c us r
+  r-stat-then : {i : ℕ} {a : Stat} {c : Cmds} {ts us r : List Word} → Reads STAT a ts (mark kSemi i ∷ us) → Reads CMDS c us r
       → Reads CMDS (stat-then a c) ts r
-  -- DEF ::= CONST ident TYPE EXPR
-  r-const : {p : ℕ} {x : Ident} {t : TypeTree} {e : Expr} {ts us r : List Word}
-      → Reads TYPE t ts us → Reads EXPR e us r
+  -- DEF ::= CONST ident TYPE EXPR | FUN ident TYPE [ ARGS ] EXPR | FUN REC ident TYPE [ ARGS ] EXPR | VAR ident TYPE | PROC ident [ ARGSP ] BLOCK | PROC REC ident [ ARGSP ] BLOCK
+  r-const : {p : ℕ} {x : Ident} {t : TypeTree} {e : Expr} {ts us r : List Word} → Reads TYPE t ts us → Reads EXPR e us r
       → Reads DEF (const p x t e) (mark kCONST p ∷ named x ∷ ts) r
-  --       | FUN ident TYPE [ ARGS ] EXPR
-  r-fun : {p i j : ℕ} {x : Ident} {t : TypeTree} {a : List Arg} {e : Expr} {ts us vs r : List Word}
-      → Reads TYPE t ts (mark kLbr i ∷ us) → Reads ARGS a us (mark kRbr j ∷ vs) → Reads EXPR e vs r
+  r-fun : {p i j : ℕ} {x : Ident} {t : TypeTree} {a : List Arg} {e : Expr} {ts us vs r : List Word} → Reads TYPE t ts (mark kLbr i ∷ us) → Reads ARGS a us (mark kRbr j ∷ vs) → Reads EXPR e vs r
       → Reads DEF (fun p x t a e) (mark kFUN p ∷ named x ∷ ts) r
-  --       | FUN REC ident TYPE [ ARGS ] EXPR
-  r-fun-rec : {p i j k : ℕ} {x : Ident} {t : TypeTree} {a : List Arg} {e : Expr} {ts us vs r : List Word}
-      → Reads TYPE t ts (mark kLbr j ∷ us) → Reads ARGS a us (mark kRbr k ∷ vs) → Reads EXPR e vs r
+  r-fun-rec : {p i j k : ℕ} {x : Ident} {t : TypeTree} {a : List Arg} {e : Expr} {ts us vs r : List Word} → Reads TYPE t ts (mark kLbr j ∷ us) → Reads ARGS a us (mark kRbr k ∷ vs) → Reads EXPR e vs r
       → Reads DEF (fun-rec p x t a e) (mark kFUN p ∷ mark kREC i ∷ named x ∷ ts) r
-  --       | VAR ident TYPE
-  r-var : {p : ℕ} {x : Ident} {t : TypeTree} {ts r : List Word}
-      → Reads TYPE t ts r
-      → Reads DEF (var p x t) (mark kVAR p ∷ named x ∷ ts) r
-  --       | PROC ident [ ARGSP ] BLOCK
-  r-proc : {p i j : ℕ} {x : Ident} {a : List ArgP} {b : Block} {ts us r : List Word}
-      → Reads ARGSP a ts (mark kRbr j ∷ us) → Reads BLOCK b us r
+  r-var : {p : ℕ} {x : Ident} {t : TypeTree} {ts r : List Word} → Reads TYPE t ts r → Reads DEF (var p x t) (mark kVAR p ∷ named x ∷ ts) r
+  r-proc : {p i j : ℕ} {x : Ident} {a : List ArgP} {b : Block} {ts us r : List Word} → Reads ARGSP a ts (mark kRbr j ∷ us) → Reads BLOCK b us r
       → Reads DEF (proc p x a b) (mark kPROC p ∷ named x ∷ mark kLbr i ∷ ts) r
-  --       | PROC REC ident [ ARGSP ] BLOCK
-  r-proc-rec : {p i j k : ℕ} {x : Ident} {a : List ArgP} {b : Block} {ts us r : List Word}
-      → Reads ARGSP a ts (mark kRbr k ∷ us) → Reads BLOCK b us r
+  r-proc-rec : {p i j k : ℕ} {x : Ident} {a : List ArgP} {b : Block} {ts us r : List Word} → Reads ARGSP a ts (mark kRbr k ∷ us) → Reads BLOCK b us r
       → Reads DEF (proc-rec p x a b) (mark kPROC p ∷ mark kREC i ∷ named x ∷ mark kLbr j ∷ ts) r
-  -- TYPE ::= bool
-  r-bool : {p : ℕ} {r : List Word}
-      → Reads TYPE (bool p) (mark kbool p ∷ r) r
-  --        | int
-  r-int : {p : ℕ} {r : List Word}
-      → Reads TYPE (int p) (mark kint p ∷ r) r
-  --        | ( TYPES -> TYPE )
-  r-arrow : {p i j : ℕ} {a : TypeTrees} {t : TypeTree} {ts us r : List Word}
-      → Reads TYPES a ts (mark kArrow i ∷ us) → Reads TYPE t us (mark kRpar j ∷ r)
+  -- TYPE ::= bool | int | ( TYPES -> TYPE )
+  r-bool : {p : ℕ} {r : List Word} → Reads TYPE (bool p) (mark kbool p ∷ r) r
+  r-int : {p : ℕ} {r : List Word} → Reads TYPE (int p) (mark kint p ∷ r) r
+  r-arrow : {p i j : ℕ} {a : TypeTrees} {t : TypeTree} {ts us r : List Word} → Reads TYPES a ts (mark kArrow i ∷ us) → Reads TYPE t us (mark kRpar j ∷ r)
       → Reads TYPE (arrow p a t) (mark kLpar p ∷ ts) r
-  -- TYPES ::= TYPE
-  r-one-type : {t : TypeTree} {ts r : List Word}
-      → Reads TYPE t ts r
-      → Reads TYPES (one-type t) ts r
-  --         | TYPE * TYPES
-  r-more-types : {i : ℕ} {t : TypeTree} {a : TypeTrees} {ts us r : List Word}
-      → Reads TYPE t ts (mark kStar i ∷ us) → Reads TYPES a us r
+  -- TYPES ::= TYPE | TYPE * TYPES
+  r-one-type : {t : TypeTree} {ts r : List Word} → Reads TYPE t ts r → Reads TYPES (one-type t) ts r
+  r-more-types : {i : ℕ} {t : TypeTree} {a : TypeTrees} {ts us r : List Word} → Reads TYPE t ts (mark kStar i ∷ us) → Reads TYPES a us r
       → Reads TYPES (more-types t a) ts r
   -- ARG ::= ident : TYPE
-  r-arg : {i : ℕ} {x : Ident} {t : TypeTree} {ts r : List Word}
-      → Reads TYPE t ts r
-      → Reads ARG (arg x t) (named x ∷ mark kColon i ∷ ts) r
-  -- ARGS ::= ARG
-  r-one-arg : {a : Arg} {ts r : List Word}
-      → Reads ARG a ts r
-      → Reads ARGS (a ∷ []) ts r
-  --        | ARG , ARGS
-  r-more-args : {i : ℕ} {a : Arg} {b : List Arg} {ts us r : List Word}
-      → Reads ARG a ts (mark kComma i ∷ us) → Reads ARGS b us r
+  r-arg : {i : ℕ} {x : Ident} {t : TypeTree} {ts r : List Word} → Reads TYPE t ts r → Reads ARG (arg x t) (named x ∷ mark kColon i ∷ ts) r
+  -- ARGS ::= ARG | ARG , ARGS
+  r-one-arg : {a : Arg} {ts r : List Word} → Reads ARG a ts r → Reads ARGS (a ∷ []) ts r
+  r-more-args : {i : ℕ} {a : Arg} {b : List Arg} {ts us r : List Word} → Reads ARG a ts (mark kComma i ∷ us) → Reads ARGS b us r
       → Reads ARGS (a ∷ b) ts r
-  -- ARGP ::= ident : TYPE
-  r-val-arg : {i : ℕ} {x : Ident} {t : TypeTree} {ts r : List Word}
-      → Reads TYPE t ts r
-      → Reads ARGP (val-arg x t) (named x ∷ mark kColon i ∷ ts) r
-  --        | var ident : TYPE
-  r-var-arg : {i j : ℕ} {x : Ident} {t : TypeTree} {ts r : List Word}
-      → Reads TYPE t ts r
+  -- ARGP ::= ident : TYPE | var ident : TYPE
+  r-val-arg : {i : ℕ} {x : Ident} {t : TypeTree} {ts r : List Word} → Reads TYPE t ts r → Reads ARGP (val-arg x t) (named x ∷ mark kColon i ∷ ts) r
+  r-var-arg : {i j : ℕ} {x : Ident} {t : TypeTree} {ts r : List Word} → Reads TYPE t ts r
       → Reads ARGP (var-arg x t) (mark kvar i ∷ named x ∷ mark kColon j ∷ ts) r
-  -- ARGSP ::= ARGP
-  r-one-argp : {a : ArgP} {ts r : List Word}
-      → Reads ARGP a ts r
-      → Reads ARGSP (a ∷ []) ts r
-  --         | ARGP , ARGSP
-  r-more-argsp : {i : ℕ} {a : ArgP} {b : List ArgP} {ts us r : List Word}
-      → Reads ARGP a ts (mark kComma i ∷ us) → Reads ARGSP b us r
+  -- ARGSP ::= ARGP | ARGP , ARGSP
+  r-one-argp : {a : ArgP} {ts r : List Word} → Reads ARGP a ts r → Reads ARGSP (a ∷ []) ts r
+  r-more-argsp : {i : ℕ} {a : ArgP} {b : List ArgP} {ts us r : List Word} → Reads ARGP a ts (mark kComma i ∷ us) → Reads ARGSP b us r
       → Reads ARGSP (a ∷ b) ts r
-  -- STAT ::= ECHO EXPR
-  r-echo : {p : ℕ} {e : Expr} {ts r : List Word}
-      → Reads EXPR e ts r
-      → Reads STAT (echo p e) (mark kECHO p ∷ ts) r
-  --        | SET ident EXPR
-  r-set : {p : ℕ} {x : Ident} {e : Expr} {ts r : List Word}
-      → Reads EXPR e ts r
-      → Reads STAT (set p x e) (mark kSET p ∷ named x ∷ ts) r
-  --        | IF EXPR BLOCK BLOCK
-  r-if-stat : {p : ℕ} {e : Expr} {b c : Block} {ts us vs r : List Word}
-      → Reads EXPR e ts us → Reads BLOCK b us vs → Reads BLOCK c vs r
+  -- STAT ::= ECHO EXPR | SET ident EXPR | IF EXPR BLOCK BLOCK | WHILE EXPR BLOCK | CALL ident EXPRSP
+  r-echo : {p : ℕ} {e : Expr} {ts r : List Word} → Reads EXPR e ts r → Reads STAT (echo p e) (mark kECHO p ∷ ts) r
+  r-set : {p : ℕ} {x : Ident} {e : Expr} {ts r : List Word} → Reads EXPR e ts r → Reads STAT (set p x e) (mark kSET p ∷ named x ∷ ts) r
+  r-if-stat : {p : ℕ} {e : Expr} {b c : Block} {ts us vs r : List Word} → Reads EXPR e ts us → Reads BLOCK b us vs → Reads BLOCK c vs r
       → Reads STAT (if-stat p e b c) (mark kIF p ∷ ts) r
-  --        | WHILE EXPR BLOCK
-  r-while : {p : ℕ} {e : Expr} {b : Block} {ts us r : List Word}
-      → Reads EXPR e ts us → Reads BLOCK b us r
+  r-while : {p : ℕ} {e : Expr} {b : Block} {ts us r : List Word} → Reads EXPR e ts us → Reads BLOCK b us r
       → Reads STAT (while p e b) (mark kWHILE p ∷ ts) r
-  --        | CALL ident EXPRSP
-  r-call : {p : ℕ} {x : Ident} {a : List ExprP} {ts r : List Word}
-      → Reads EXPRSP a ts r
-      → Reads STAT (call p x a) (mark kCALL p ∷ named x ∷ ts) r
-  -- EXPRSP ::= EXPRP
-  r-one-exprp : {a : ExprP} {ts r : List Word}
-      → Reads EXPRP a ts r
-      → Reads EXPRSP (a ∷ []) ts r
-  --          | EXPRP EXPRSP
-  r-more-exprsp : {a : ExprP} {b : List ExprP} {ts us r : List Word}
-      → Reads EXPRP a ts us → Reads EXPRSP b us r
-      → Reads EXPRSP (a ∷ b) ts r
-  -- EXPRP ::= EXPR
-  r-val : {e : Expr} {ts r : List Word}
-      → Reads EXPR e ts r
-      → Reads EXPRP (val e) ts r
-  --         | ( adr ident )
-  r-adr : {p i j : ℕ} {x : Ident} {r : List Word}
-      → Reads EXPRP (adr p x) (mark kLpar p ∷ mark kadr i ∷ named x ∷ mark kRpar j ∷ r) r
-  -- EXPR ::= num
-  r-num : {p : ℕ} {z : ℤ} {r : List Word}
-      → Reads EXPR (num p z) (number p z ∷ r) r
-  --        | ident
-  r-name : {x : Ident} {r : List Word}
-      → Reads EXPR (name x) (named x ∷ r) r
-  --        | ( if EXPR EXPR EXPR )
-  r-if-expr : {p i j : ℕ} {e f g : Expr} {ts us vs r : List Word}
-      → Reads EXPR e ts us → Reads EXPR f us vs → Reads EXPR g vs (mark kRpar j ∷ r)
+  r-call : {p : ℕ} {x : Ident} {a : List ExprP} {ts r : List Word} → Reads EXPRSP a ts r → Reads STAT (call p x a) (mark kCALL p ∷ named x ∷ ts) r
+  -- EXPRSP ::= EXPRP | EXPRP EXPRSP
+  r-one-exprp : {a : ExprP} {ts r : List Word} → Reads EXPRP a ts r → Reads EXPRSP (a ∷ []) ts r
+  r-more-exprsp : {a : ExprP} {b : List ExprP} {ts us r : List Word} → Reads EXPRP a ts us → Reads EXPRSP b us r → Reads EXPRSP (a ∷ b) ts r
+  -- EXPRP ::= EXPR | ( adr ident )
+  r-val : {e : Expr} {ts r : List Word} → Reads EXPR e ts r → Reads EXPRP (val e) ts r
+  r-adr : {p i j : ℕ} {x : Ident} {r : List Word} → Reads EXPRP (adr p x) (mark kLpar p ∷ mark kadr i ∷ named x ∷ mark kRpar j ∷ r) r
+  -- EXPR ::= num | ident | ( if EXPR EXPR EXPR ) | ( and EXPR EXPR ) | ( or EXPR EXPR ) | ( EXPR EXPRS ) | [ ARGS ] EXPR
+  r-num : {p : ℕ} {z : ℤ} {r : List Word} → Reads EXPR (num p z) (number p z ∷ r) r
+  r-name : {x : Ident} {r : List Word} → Reads EXPR (name x) (named x ∷ r) r
+  r-if-expr : {p i j : ℕ} {e f g : Expr} {ts us vs r : List Word} → Reads EXPR e ts us → Reads EXPR f us vs → Reads EXPR g vs (mark kRpar j ∷ r)
       → Reads EXPR (if-expr p e f g) (mark kLpar p ∷ mark kif i ∷ ts) r
-  --        | ( and EXPR EXPR )
-  r-and : {p i j : ℕ} {e f : Expr} {ts us r : List Word}
-      → Reads EXPR e ts us → Reads EXPR f us (mark kRpar j ∷ r)
+  r-and : {p i j : ℕ} {e f : Expr} {ts us r : List Word} → Reads EXPR e ts us → Reads EXPR f us (mark kRpar j ∷ r)
       → Reads EXPR (and p e f) (mark kLpar p ∷ mark kand i ∷ ts) r
-  --        | ( or EXPR EXPR )
-  r-or : {p i j : ℕ} {e f : Expr} {ts us r : List Word}
-      → Reads EXPR e ts us → Reads EXPR f us (mark kRpar j ∷ r)
+  r-or : {p i j : ℕ} {e f : Expr} {ts us r : List Word} → Reads EXPR e ts us → Reads EXPR f us (mark kRpar j ∷ r)
       → Reads EXPR (or p e f) (mark kLpar p ∷ mark kor i ∷ ts) r
-  --        | ( EXPR EXPRS )
-  r-app : {p i : ℕ} {e : Expr} {a : Exprs} {ts us r : List Word}
-      → Reads EXPR e ts us → Reads EXPRS a us (mark kRpar i ∷ r)
+  r-app : {p i : ℕ} {e : Expr} {a : Exprs} {ts us r : List Word} → Reads EXPR e ts us → Reads EXPRS a us (mark kRpar i ∷ r)
       → Reads EXPR (app p e a) (mark kLpar p ∷ ts) r
-  --        | [ ARGS ] EXPR
-  r-abs : {p i : ℕ} {a : List Arg} {e : Expr} {ts us r : List Word}
-      → Reads ARGS a ts (mark kRbr i ∷ us) → Reads EXPR e us r
+  r-abs : {p i : ℕ} {a : List Arg} {e : Expr} {ts us r : List Word} → Reads ARGS a ts (mark kRbr i ∷ us) → Reads EXPR e us r
       → Reads EXPR (abs p a e) (mark kLbr p ∷ ts) r
-  -- EXPRS ::= EXPR
-  r-one-expr : {e : Expr} {ts r : List Word}
-      → Reads EXPR e ts r
-      → Reads EXPRS (one-expr e) ts r
-  --         | EXPR EXPRS
-  r-more-exprs : {e : Expr} {a : Exprs} {ts us r : List Word}
-      → Reads EXPR e ts us → Reads EXPRS a us r
-      → Reads EXPRS (more-exprs e a) ts r
+  -- EXPRS ::= EXPR | EXPR EXPRS
+  r-one-expr : {e : Expr} {ts r : List Word} → Reads EXPR e ts r → Reads EXPRS (one-expr e) ts r
+  r-more-exprs : {e : Expr} {a : Exprs} {ts us r : List Word} → Reads EXPR e ts us → Reads EXPRS a us r → Reads EXPRS (more-exprs e a) ts r
 
 -- PROG: the words are a program; and some program begins with them.
 abbrev pub Program : List Word → Type 0

@@ -27,8 +27,7 @@ nine-names =
     (bytesOf "add", operator add) ∷ (bytesOf "sub", operator sub) ∷ (bytesOf "mul", operator mul) ∷ (bytesOf "div", operator div) ∷ []
 
 abbrev pub or-free : Option Meaning → Meaning
-or-free none = free
-or-free (some m) = m
+or-free = elim [ none ↦ free | some m ↦ m ]
 
 -- what a name is: one of the nine as the list says, any other is free
 unfoldable pub meaning : Name → Meaning
@@ -41,16 +40,9 @@ unless-nine (operator f) o = none
 unless-nine free o = o
 
 abbrev pub operator-of : Meaning → Option Op
-operator-of (literal b) = none
-operator-of (operator o) = some o
-operator-of free = none
+operator-of = elim [ literal b ↦ none | operator o ↦ some o | free ↦ none ]
 
 -- the operator that stands as the head of an application, if one does
 abbrev pub head-operator : Expr → Option Op
-head-operator (num p n) = none
-head-operator (name (at p x)) = operator-of (meaning x)
-head-operator (if-expr p a b c) = none
-head-operator (and p a b) = none
-head-operator (or p a b) = none
-head-operator (app p f es) = none
-head-operator (abs p ps e) = none
+head-operator =
+    elim [ num p n ↦ none | name (at p x) ↦ operator-of (meaning x) | if-expr p a b c ↦ none | and p a b ↦ none | or p a b ↦ none | app p f g ↦ none | abs p a e ↦ none ]

@@ -36,19 +36,13 @@ same-number a b = cond (leZ a b) (leZ b a) false
 
 -- true is 1, false is 0
 abbrev pub bit : Bool → ℤ
-bit true = pos 1
-bit false = pos 0
+bit = elim [ true ↦ pos 1 | false ↦ pos 0 ]
 
 abbrev pub as-bit : ℤ → Option Bool
-as-bit (pos zero) = some false
-as-bit (pos (suc zero)) = some true
-as-bit (pos (suc (suc n))) = none
-as-bit (negsuc n) = none
+as-bit = elim [ pos zero ↦ some false | pos (suc zero) ↦ some true | pos (suc (suc n)) ↦ none | negsuc n ↦ none ]
 
 abbrev pub negated : Option Bool → Option Computed
-negated none = none
-negated (some true) = some (amount (bit false))
-negated (some false) = some (amount (bit true))
+negated = elim [ none ↦ none | some true ↦ some (amount (bit false)) | some false ↦ some (amount (bit true)) ]
 
 -- π₁: not, of 0 or 1
 abbrev pub op1 : Op → ℤ → Option Computed

@@ -18,11 +18,7 @@ pub data JudgedNode : Type 0 where
   stat-node : Ctx → Stat → JudgedNode
 
 abbrev pub place-node : JudgedNode → ℕ
-place-node (expr-node Γ e) = place-expr e
-place-node (adr-node Γ p x) = p
-place-node (param-node a) = place-param a
-place-node (def-node Γ d) = place-def d
-place-node (stat-node Γ c) = place-stat c
+place-node = elim [ expr-node Γ e ↦ place-expr e | adr-node Γ p x ↦ p | param-node a ↦ place-param a | def-node Γ d ↦ place-def d | stat-node Γ c ↦ place-stat c ]
 
 -- a node that can be typed
 abbrev pub Typed : JudgedNode → Type 0

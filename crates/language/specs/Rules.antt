@@ -126,12 +126,7 @@ store (c ∷ cs) zero v = some (some v ∷ cs)
 store (c ∷ cs) (suc a) v = behind c (store cs a v)
 
 abbrev pub as-number : Val → Option ℤ
-as-number (inZ n) = some n
-as-number (inF e xs ρ) = none
-as-number (inFR e f xs ρ) = none
-as-number (inP b xs ρ) = none
-as-number (inPR b f xs ρ) = none
-as-number (inA a) = none
+as-number = elim [ inZ n ↦ some n | inF e xs ρ ↦ none | inFR e f xs ρ ↦ none | inP b xs ρ ↦ none | inPR b f xs ρ ↦ none | inA a ↦ none ]
 
 abbrev pub if-number : {A : Type 0} → Option ℤ → (ℤ → Option A) → Option A
 if-number none k = none
@@ -142,12 +137,7 @@ abbrev pub as-truth : Val → Option Bool
 as-truth v = if-number (as-number v) as-bit
 
 abbrev pub as-address : Val → Option ℕ
-as-address (inZ n) = none
-as-address (inF e xs ρ) = none
-as-address (inFR e f xs ρ) = none
-as-address (inP b xs ρ) = none
-as-address (inPR b f xs ρ) = none
-as-address (inA a) = some a
+as-address = elim [ inZ n ↦ none | inF e xs ρ ↦ none | inFR e f xs ρ ↦ none | inP b xs ρ ↦ none | inPR b f xs ρ ↦ none | inA a ↦ some a ]
 
 abbrev pub as-numbers : List Val → Option (List ℤ)
 as-numbers [] = some []

@@ -25,9 +25,7 @@ pub data Word : Type 0 where
   named : Ident → Word
 
 abbrev pub place-word : Word → ℕ
-place-word (mark m p) = p
-place-word (number p z) = p
-place-word (named x) = place-ident x
+place-word = elim [ mark m p ↦ p | number p z ↦ p | named x ↦ place-ident x ]
 
 -- Separators, letters, digits.
 abbrev pub oneOf : List ℕ → ℕ → Bool
