@@ -14,9 +14,9 @@ use Rattle.language.specs.Levels.{levels, deepest}
 use Rattle.language.specs.Reading.{Within, Reading, a-program}
 use Rattle.language.specs.Typing.{Typable}
 use Rattle.language.specs.Rules.{stop, no-rule, Outcome, ok, halt, bind, need, within, level, run}
-use Rattle.language.specs.Outcome.{end-of, NoRule}
+use Rattle.language.specs.Outcome.{end-of}
 use Rattle.language.specs.Promises.{Verdict, typed}
-use Rattle.language.specs.Claims.{AcceptedExactly, OneVerdict, OneTree, OneLevels, TreeFits, TypedOrRefused, UniqueTypes, Levels128, NeverStuck, EndsByTheTable, SameUnderLargerLimits, NumbersBegin, CountsInLimits, LimitIsUsedUp, WhileRule, NoRuleIsReached, OneCheck, OneRun, DeskHolds}
+use Rattle.language.specs.Claims.{AcceptedExactly, OneVerdict, OneTree, OneLevels, TreeFits, TypedOrRefused, UniqueTypes, Levels128, NoRule, NeverStuck, EndsByTheTable, SameUnderLargerLimits, NumbersBegin, CountsInLimits, LimitIsUsedUp, WhileRule, NoRuleIsReached, OneCheck, OneRun, DeskHolds}
 use Rattle.language.proofs.reading.Shown.{one-tree, levels-once, room}
 use Rattle.language.proofs.typing.Unique.{unique-types}
 use Rattle.language.proofs.typing.Judged.{one-verdict}

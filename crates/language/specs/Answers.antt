@@ -1,5 +1,5 @@
 -- What the gate says, with document 01's number for each answer.
-use Prim.Native.Nat.{ℕ}
+use Rattle.language.specs.Library.{ℕ}
 
 -- a text or a call is refused (1 to 9)
 pub data Refusal : Type 0 where

@@ -1,14 +1,8 @@
 -- What is claimed of the language, each claim as a type with a sentence; proofs/Claims.antt proves each.
-use mathlib.Core.Path.{_≡_}
-use mathlib.Core.Logic.{_↔_, _⊎_}
-use Prim.Native.Nat.{ℕ, suc, _≤_, zero}
-use mathlib.Core.List.{List, [], _∷_, _++_}
-use mathlib.Core.Option.{some}
-use lib.IntN.{ℤ}
-use lib.ListN.{length}
+use Rattle.language.specs.Library.{_≡_, _↔_, _⊎_, ℕ, zero, suc, _≤_, ℤ, List, [], _∷_, _++_, length, some}
 use Rattle.language.specs.Syntax.{at, Expr, name, last, echo, while, Block, block}
 use Rattle.language.specs.Bytes.{bytesOf}
-use Rattle.language.specs.Answers.{Stop, done, stopped, Result, fine}
+use Rattle.language.specs.Answers.{FUEL, DEPTH, CELLS, BINDINGS, OUTPUT, Stop, limit, error, done, stopped, Result, fine}
 use Rattle.language.specs.Words.{Word, wordsOf, most}
 use Rattle.language.specs.Grammar.{BLOCK, Reads}
 use Rattle.language.specs.Table.{table}
@@ -18,8 +12,8 @@ use Rattle.language.specs.Types.{Ty, base, fn, Tys, tnil, tcons, Ctx}
 use Rattle.language.specs.Typing.{HasE, Typable}
 use Rattle.language.specs.Order.{JudgedNode, expr-node, adr-node, param-node, def-node, stat-node, nodes-block, TypeRefused}
 use Rattle.language.specs.Limits.{Limits, greatest-limits, _⊑_}
-use Rattle.language.specs.Rules.{Env, State, ok, bind, need, branch, enter, as-truth, in-block, level, run}
-use Rattle.language.specs.Outcome.{state-of, end-of, NoRule, NotLimited, InLimits, UsedUp}
+use Rattle.language.specs.Rules.{Env, State, stop, no-rule, Outcome, ok, halt, bind, need, branch, enter, as-truth, in-block, level, run}
+use Rattle.language.specs.Outcome.{state-of, end-of}
 use Rattle.language.specs.Promises.{Verdict, tree-words, Lent, Checked, Check, Ran, Run}
 use Rattle.language.specs.Desk.{AllHold, desk}
 
@@ -89,6 +83,37 @@ abbrev pub Levels128 : Type 0
 Levels128 = (b : Block) → Within deepest (levels b) → AllNodes Comparable (nodes-block [] b)
 
 -- ---- runs
+
+-- the outcome that no rule fits
+abbrev pub NoRule : {A : Type 0} → Outcome A → Type 0
+NoRule (ok a s) = ⊥
+NoRule (halt (stop w) p s) = ⊥
+NoRule (halt no-rule p s) = Unit {0}
+
+-- an outcome that no limit stopped
+abbrev pub NotLimited : {A : Type 0} → Outcome A → Type 0
+NotLimited (ok a s) = Unit {0}
+NotLimited (halt (stop (limit l)) p s) = ⊥
+NotLimited (halt (stop (error x)) p s) = Unit {0}
+NotLimited (halt no-rule p s) = Unit {0}
+
+-- no count passes its limit
+pub record InLimits (L : Limits) (s : State) : Type 0 where
+  pub units-in : s .units ≤ L .fuel
+  pub bindings-in : s .bindings ≤ L .bindings
+  pub cells-in : length (s .cells) ≤ L .cells
+  pub numbers-in : length (s .numbers) ≤ L .output
+
+-- where FUEL, CELLS or OUTPUT stops a run, that limit is used up (what DEPTH and BINDINGS lack stands in no count of the state)
+abbrev pub UsedUp : Limits → Outcome (Unit {0}) → Type 0
+UsedUp L (ok a s) = Unit {0}
+UsedUp L (halt (stop (limit FUEL)) p s) = s .units ≡ L .fuel
+UsedUp L (halt (stop (limit DEPTH)) p s) = Unit {0}
+UsedUp L (halt (stop (limit CELLS)) p s) = length (s .cells) ≡ L .cells
+UsedUp L (halt (stop (limit BINDINGS)) p s) = Unit {0}
+UsedUp L (halt (stop (limit OUTPUT)) p s) = length (s .numbers) ≡ L .output
+UsedUp L (halt (stop (error x)) p s) = Unit {0}
+UsedUp L (halt no-rule p s) = Unit {0}
 
 -- No accepted text reaches a state that no rule fits, under any limits.
 abbrev pub NeverStuck : Type 0

@@ -1,10 +1,5 @@
 -- Scripts the desk keeps (document 01, those marked *): a text, limits, and what the rules say of it, from reading to the run's end.
-use Prim.Native.Nat.{ℕ}
-use Prim.Native.String.{String}
-use mathlib.Core.Path.{_≡_}
-use mathlib.Core.List.{List, [], _∷_}
-use mathlib.Core.Option.{some}
-use lib.IntN.{ℤ, pos, negsuc}
+use Rattle.language.specs.Library.{_≡_, ℕ, String, ℤ, pos, negsuc, List, [], _∷_, some}
 use Rattle.language.specs.Syntax.{Block}
 use Rattle.language.specs.Bytes.{bytesOf}
 use Rattle.language.specs.Answers.{SYNTAX, TYPE, FUEL, DEPTH, ZERO, UNSET, limit, error, Answer, done, stopped, Result}

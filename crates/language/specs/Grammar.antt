@@ -1,8 +1,6 @@
 -- The grammar of APS1a, 000 section 3.1: `Reads k e ts r` says that the words from the front of `ts` up to where `r` begins are the tree `e`,
 -- by the lines for `k`. One constructor for each line, in the source's order of words.
-use mathlib.Core.List.{List, [], _∷_, _++_}
-use Prim.Native.Nat.{ℕ}
-use lib.IntN.{ℤ}
+use Rattle.language.specs.Library.{ℕ, ℤ, List, [], _∷_, _++_}
 use Rattle.language.specs.Syntax.{Ident, TypeTree, bool, int, arrow, TypeTrees, one-type, more-types, Arg, arg, ArgP, val-arg, var-arg, Expr, num, name, if-expr, and, or, app, abs, Exprs, one-expr, more-exprs, ExprP, val, adr, Cmds, last, def-then, stat-then, Def, const, fun, fun-rec, var, proc, proc-rec, Stat, echo, set, if-stat, while, call, Block, block}
 use Rattle.language.specs.Words.{kLbr, kRbr, kLpar, kRpar, kSemi, kColon, kComma, kStar, kArrow, kCONST, kFUN, kREC, kVAR, kPROC, kECHO, kSET, kIF, kWHILE, kCALL, kif, kand, kor, kbool, kint, kvar, kadr, Word, mark, number, named}
 

@@ -1,8 +1,7 @@
 -- Levels, document 01: a block, a parenthesised expression, an `(adr x)`, an abstraction (to the end of its body) and a function type each open
 -- one level at their first word; parameter lists open none.
 -- `levels e d l`: the level that each word of the tree `e` opens, 0 for none, in text order, where `d` levels are open; before those in `l`.
-use mathlib.Core.List.{List, [], _∷_}
-use Prim.Native.Nat.{ℕ, suc}
+use Rattle.language.specs.Library.{ℕ, suc, List, [], _∷_}
 use Rattle.language.specs.Syntax.{TypeTree, bool, int, arrow, TypeTrees, one-type, more-types, Arg, arg, ArgP, val-arg, var-arg, Expr, num, name, if-expr, and, or, app, abs, Exprs, one-expr, more-exprs, ExprP, val, adr, Cmds, last, def-then, stat-then, Def, const, fun, fun-rec, var, proc, proc-rec, Stat, echo, set, if-stat, while, call, Block, block}
 
 unfoldable mutual

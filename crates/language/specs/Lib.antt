@@ -1,3 +1,4 @@
+pub mod Library
 pub mod Syntax
 pub mod Bytes
 pub mod Places

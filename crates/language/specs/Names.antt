@@ -1,7 +1,5 @@
 -- What a name is by itself. The nine names of the language are ordinary names (000, section 3.1): one function tells them from the others.
-use mathlib.Core.Bool.{Bool, true, false, cond}
-use mathlib.Core.List.{List, [], _∷_}
-use mathlib.Core.Option.{Option, none, some}
+use Rattle.language.specs.Library.{Bool, true, false, cond, List, [], _∷_, Option, none, some}
 use Rattle.language.specs.Syntax.{Name, at, Expr, num, name, if-expr, and, or, app, abs}
 use Rattle.language.specs.Bytes.{bytesOf, same-bytes}
 

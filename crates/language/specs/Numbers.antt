@@ -1,10 +1,5 @@
 -- Numbers: their range, and what the operators compute (000's π₁ and π₂).
-use Prim.Native.Nat.{zero, suc}
-use mathlib.Core.Bool.{Bool, true, false, cond}
-use mathlib.Core.List.{List, [], _∷_}
-use mathlib.Core.Option.{Option, none, some}
-use lib.IntN.{ℤ, pos, negsuc, _+ℤ_, _-ℤ_, _*ℤ_}
-use lib.Signed.{ltZ, leZ, quotZ}
+use Rattle.language.specs.Library.{zero, suc, ℤ, pos, negsuc, _+ℤ_, _-ℤ_, _*ℤ_, ltZ, leZ, quotZ, Bool, true, false, cond, List, [], _∷_, Option, none, some}
 use Rattle.language.specs.Answers.{ErrorStop, RANGE, ZERO}
 use Rattle.language.specs.Names.{Op, not, eq, lt, add, sub, mul, div}
 

@@ -1,8 +1,6 @@
 -- Where TYPE is reported (document 01): the first node, in the order in which nodes end, that cannot be typed.
 -- Children end before their parents, so at the first such node every part is typed and the node's own rule cannot be met.
-use Prim.Native.Nat.{ℕ}
-use mathlib.Core.List.{List, [], _∷_, _++_}
-use mathlib.Core.Option.{Option, none, some}
+use Rattle.language.specs.Library.{ℕ, List, [], _∷_, _++_, Option, none, some}
 use Rattle.language.specs.Syntax.{Ident, at, ArgP, Expr, num, name, if-expr, and, or, app, abs, Exprs, one-expr, more-exprs, ExprP, val, adr, Cmds, last, def-then, stat-then, Def, const, fun, fun-rec, var, proc, proc-rec, Stat, echo, set, if-stat, while, call, Block, block}
 use Rattle.language.specs.Places.{place-expr, place-param, place-def, place-stat}
 use Rattle.language.specs.Names.{Op, head-operator}

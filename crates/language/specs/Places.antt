@@ -1,5 +1,5 @@
 -- The byte place of each node: its first word's; a parameter's is its name's.
-use Prim.Native.Nat.{ℕ}
+use Rattle.language.specs.Library.{ℕ}
 use Rattle.language.specs.Syntax.{Ident, at, ArgP, val-arg, var-arg, Expr, num, name, if-expr, and, or, app, abs, ExprP, val, adr, Def, const, fun, fun-rec, var, proc, proc-rec, Stat, echo, set, if-stat, while, call}
 
 abbrev pub place-ident : Ident → ℕ

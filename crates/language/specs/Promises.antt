@@ -1,13 +1,6 @@
 -- What each public job answers and what it leaves in every table, for all inputs (document 01, "When the gate says no" and "Left behind").
 -- NAME's promise is `nameAt` of Words.
-use mathlib.Core.Path.{_≡_}
-use mathlib.Core.Bool.{Bool, true, false, cond}
-use mathlib.Core.List.{List, [], _∷_, _++_}
-use mathlib.Core.Option.{some}
-use Prim.Native.Nat.{ℕ, _-_, _≤_, _<_}
-use lib.Dec.{leb}
-use lib.IntN.{ℤ}
-use lib.ListN.{length, drop, replicate}
+use Rattle.language.specs.Library.{_≡_, ℕ, _-_, _≤_, _<_, ℤ, Bool, true, false, cond, leb, List, [], _∷_, _++_, length, drop, replicate, some}
 use Rattle.language.specs.Syntax.{Block}
 use Rattle.language.specs.Answers.{Refusal, LENGTH, LIMIT, TABLE, TYPE, Answer, done, refused, Result, fine, refuse}
 use Rattle.language.specs.Table.{table}
@@ -79,15 +72,17 @@ pub record Checked : Type 0 where
   pub tree : List ℕ
   pub works : List (List ℕ)
 
-pub data Check (text tree : List ℕ) (works : List Lent) : Checked → Type 0 where
-  -- 1 LENGTH and 3 TABLE: nothing is changed
-  too-long : text-bytes < length text →
-      Check text tree works (record { answer = refused LENGTH 0; tree = tree; works = untouched works })
-  too-small : length text ≤ text-bytes → large-enough (tree-table tree ∷ works) ≡ false →
-      Check text tree works (record { answer = refused TABLE 0; tree = tree; works = untouched works })
-  -- 0 and 4 to 9
-  judged : {v : Result Block} → length text ≤ text-bytes → large-enough (tree-table tree ∷ works) ≡ true → Verdict text v →
-      Check text tree works (record { answer = verdict-answer v; tree = tree-after v tree; works = cleared works })
+module _ (text tree : List ℕ) (works : List Lent) where
+  -- 1 LENGTH, 3 TABLE: nothing is changed
+  abbrev pub check-refuses : Refusal → Checked
+  check-refuses r = record { answer = refused r 0; tree = tree; works = untouched works }
+
+  pub data Check : Checked → Type 0 where
+    too-long : text-bytes < length text → Check (check-refuses LENGTH)
+    too-small : length text ≤ text-bytes → large-enough (tree-table tree ∷ works) ≡ false → Check (check-refuses TABLE)
+    -- 0 and 4 to 9
+    judged : {v : Result Block} → length text ≤ text-bytes → large-enough (tree-table tree ∷ works) ≡ true → Verdict text v →
+        Check (record { answer = verdict-answer v; tree = tree-after v tree; works = cleared works })
 
 -- ---- RUN
 
@@ -110,39 +105,34 @@ pub record Ran : Type 0 where
   pub stores : List (List ℕ)
   pub output : List ℤ
 
--- the numbers put out, and the rest of the output table as it was
-abbrev pub put-into : List ℤ → List ℤ → List ℤ
-put-into numbers t = numbers ++ drop (length numbers) t
-
--- all that is lent for a run is large enough: the output table for its limit
-abbrev pub all-large-enough : Limits → List Lent → List ℤ → Bool
-all-large-enough L ts output = cond (leb (L .output) (length output)) (large-enough ts) false
-
 -- `stores` are the tables of bindings and cells, as far as their limits
-pub data Run (L : Limits) (text tree : List ℕ) (works stores : List Lent) (output : List ℤ) : Ran → Type 0 where
+module _ (L : Limits) (text tree : List ℕ) (works stores : List Lent) (output : List ℤ) where
+  -- all tables are large enough, the output table for its limit
+  abbrev pub all-large : Bool
+  all-large = cond (leb (L .output) (length output)) (large-enough (tree-table tree ∷ (works ++ stores))) false
+
   -- 1 LENGTH, 2 LIMIT, 3 TABLE: nothing is changed
-  too-long : text-bytes < length text →
-      Run L text tree works stores output
-      (record { says = told (refused LENGTH 0) start; tree = tree; works = untouched works; stores = untouched stores; output = output })
-  too-much : length text ≤ text-bytes → ¬ Admitted L →
-      Run L text tree works stores output
-      (record { says = told (refused LIMIT 0) start; tree = tree; works = untouched works; stores = untouched stores; output = output })
-  too-small : length text ≤ text-bytes → Admitted L → all-large-enough L (tree-table tree ∷ (works ++ stores)) output ≡ false →
-      Run L text tree works stores output
-      (record { says = told (refused TABLE 0) start; tree = tree; works = untouched works; stores = untouched stores; output = output })
-  -- 4 to 9: bindings, cells and output are untouched
-  not-run : {r : Refusal} {p : ℕ} → length text ≤ text-bytes → Admitted L → all-large-enough L (tree-table tree ∷ (works ++ stores)) output ≡ true →
-      Verdict text (refuse r p) →
-      Run L text tree works stores output
-      (record { says = told (refused r p) start; tree = zeroed tree-words tree; works = cleared works; stores = untouched stores; output = output })
-  -- 0 and 20 to 27: the run's end and counts
-  ran : {b : Block} {a : Answer} → length text ≤ text-bytes → Admitted L → all-large-enough L (tree-table tree ∷ (works ++ stores)) output ≡ true →
-      Verdict text (fine b) → end-of (run L b) ≡ some a →
-      Run L text tree works stores output
-      (record {
-        says = told a (state-of (run L b));
+  abbrev pub run-refuses : Refusal → Ran
+  run-refuses r = record { says = told (refused r 0) start; tree = tree; works = untouched works; stores = untouched stores; output = output }
+
+  -- the run of the tree b, with the answer a: its numbers are put out, and the rest of the output table is as it was
+  abbrev pub ran-with : Block → Answer → State → Ran
+  ran-with b a s =
+      record {
+        says = told a s;
         tree = holding tree-words (table b) tree;
         works = cleared works;
         stores = cleared stores;
-        output = put-into (state-of (run L b) .numbers) output;
-      })
+        output = s .numbers ++ drop (length (s .numbers)) output;
+      }
+
+  pub data Run : Ran → Type 0 where
+    too-long : text-bytes < length text → Run (run-refuses LENGTH)
+    too-much : length text ≤ text-bytes → ¬ Admitted L → Run (run-refuses LIMIT)
+    too-small : length text ≤ text-bytes → Admitted L → all-large ≡ false → Run (run-refuses TABLE)
+    -- 4 to 9: bindings, cells and output are untouched
+    not-run : {r : Refusal} {p : ℕ} → length text ≤ text-bytes → Admitted L → all-large ≡ true → Verdict text (refuse r p) →
+        Run (record { says = told (refused r p) start; tree = zeroed tree-words tree; works = cleared works; stores = untouched stores; output = output })
+    -- 0 and 20 to 27: the end and the counts of the rules
+    ran : {b : Block} {a : Answer} → length text ≤ text-bytes → Admitted L → all-large ≡ true → Verdict text (fine b) → end-of (run L b) ≡ some a →
+        Run (ran-with b a (state-of (run L b)))

@@ -1,8 +1,5 @@
 -- What reading promises, document 01: a text has one answer, its tree or a refusal with its number and place.
-use mathlib.Core.Path.{_≡_}
-use mathlib.Core.List.{List, [], _∷_, _++_}
-use Prim.Native.Nat.{ℕ, suc, _≤_}
-use lib.ListN.{length}
+use Rattle.language.specs.Library.{_≡_, ℕ, suc, _≤_, List, [], _∷_, _++_, length}
 use Rattle.language.specs.Syntax.{Block}
 use Rattle.language.specs.Answers.{Refusal, TOKENS, SYNTAX, LEVEL, Result, fine, refuse}
 use Rattle.language.specs.Words.{Word, place-word, wordsOf, most}

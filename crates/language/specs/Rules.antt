@@ -1,12 +1,6 @@
 -- The evaluation rules, under 000's names (section 3.3), executable. They are written over any tree and read no types.
 -- The state counts what is taken; the limits are a parameter. A state that no rule fits is an outcome of its own, `no-rule`.
-use Prim.Native.Nat.{ℕ, zero, suc, _+_}
-use mathlib.Core.Bool.{Bool, true, false, cond}
-use mathlib.Core.List.{List, [], _∷_, _++_}
-use mathlib.Core.Option.{Option, none, some}
-use lib.Dec.{ltb, leb}
-use lib.IntN.{ℤ, pos}
-use lib.ListN.{length}
+use Rattle.language.specs.Library.{ℕ, zero, suc, _+_, ℤ, pos, Bool, true, false, cond, leb, ltb, List, [], _∷_, _++_, length, Option, none, some}
 use Rattle.language.specs.Syntax.{Name, at, Expr, num, name, if-expr, and, or, app, abs, Exprs, one-expr, more-exprs, ExprP, val, adr, Cmds, last, def-then, stat-then, Def, const, fun, fun-rec, var, proc, proc-rec, Stat, echo, set, if-stat, while, call, Block, block}
 use Rattle.language.specs.Bytes.{same-bytes}
 use Rattle.language.specs.Places.{place-expr, place-arg, place-def, place-stat}

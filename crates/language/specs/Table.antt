@@ -1,6 +1,5 @@
 -- The tree that comes back, document 01: a tree's nodes as a forest of kinds and places, `shape`, and the words of a forest, `enc`.
-use mathlib.Core.List.{List, [], _∷_, _++_, map}
-use Prim.Native.Nat.{ℕ, _+_, _*_}
+use Rattle.language.specs.Library.{ℕ, _+_, _*_, List, [], _∷_, _++_, map}
 use Rattle.language.specs.Syntax.{Ident, TypeTree, bool, int, arrow, TypeTrees, one-type, more-types, Arg, arg, ArgP, val-arg, var-arg, Expr, num, name, if-expr, and, or, app, abs, Exprs, one-expr, more-exprs, ExprP, val, adr, Cmds, last, def-then, stat-then, Def, const, fun, fun-rec, var, proc, proc-rec, Stat, echo, set, if-stat, while, call, Block, block}
 use Rattle.language.specs.Places.{place-ident}
 

@@ -1,12 +1,5 @@
 -- From bytes to words, document 01.
-use mathlib.Core.Bool.{Bool, false, _&&_, _||_, cond}
-use mathlib.Core.List.{List, [], _∷_}
-use mathlib.Core.Option.{Option, none, some}
-use Prim.Native.Nat.{ℕ, zero, suc, _+_, _-_, _*_}
-use Prim.Native.String.{String}
-use lib.Dec.{leb, eqb}
-use lib.IntN.{ℤ, pos, negℤ}
-use lib.ListN.{length, drop}
+use Rattle.language.specs.Library.{ℕ, zero, suc, _+_, _-_, _*_, String, ℤ, pos, negℤ, Bool, false, cond, _&&_, _||_, eqb, leb, List, [], _∷_, length, drop, Option, none, some}
 use Rattle.language.specs.Syntax.{Name, Ident, at}
 use Rattle.language.specs.Bytes.{bytesOf, same-bytes}
 use Rattle.language.specs.Places.{place-ident}

@@ -14,7 +14,8 @@ use Rattle.language.specs.Names.{Op, Meaning, literal, operator, free, m
 use Rattle.language.specs.Numbers.{Computed, amount, fails}
 use Rattle.language.specs.Limits.{Limits}
 use Rattle.language.specs.Rules.{Val, inZ, inF, inFR, inP, inPR, inA, Env, empty, State, Why, stop, no-rule, Outcome, ok, halt, bind, need, within, branch, take-unit, take-bindings, with-cells, put-out, enter, make, look, behind, store, give, give-cell, Level, exprs, args, cmds, in-block, read, name-rule, apply-rule, expr-rule, arg-rule, def-rule, rounds, stat-rule, step, level, start, run}
-use Rattle.language.specs.Outcome.{state-of, InLimits, UsedUp}
+use Rattle.language.specs.Outcome.{state-of}
+use Rattle.language.specs.Claims.{InLimits, UsedUp}
 use Rattle.language.proofs.running.Stable.{Mark, mark, After, aOk, aHalt, sim-after, SimLevel, block-sim, level-self}
 
 -- I is kept by each change of the state, and H holds where a run may halt

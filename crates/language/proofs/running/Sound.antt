@@ -17,7 +17,7 @@ use Rattle.language.specs.Types.{Base, boolean, integer, Ty, base, fn, T
 use Rattle.language.specs.Typing.{IsBase, HasE, NUM, LITERAL, IDV, IDR, IF, AND, OR, PRIM, APP, ABS, HasEs, ONE, MORE, HasA, REF, VAL, HasAs, NO-ARGS, ARGS, HasB, BLOC, HasC, DECS, STATS, END, HasD, CONST, FUN, FUNREC, VAR, PROC, PROCREC, HasS, ECHO, SET, IFS, WHILE, CALL, Typable}
 use Rattle.language.specs.Limits.{Limits}
 use Rattle.language.specs.Rules.{Val, inZ, inF, inFR, inP, inPR, inA, Env, empty, bound, State, Why, stop, no-rule, Outcome, ok, halt, bind, need, within, branch, take-unit, with-cells, make, lookup-env, look, bind-all, nth, behind, store, as-number, as-truth, as-address, operate, Entered, entering, also, open-function, open-procedure, give, give-cell, Level, exprs, args, cmds, in-block, read, name-rule, apply-rule, expr-rule, arg-rule, def-rule, rounds, stat-rule, step, level, start, run}
-use Rattle.language.specs.Outcome.{NoRule}
+use Rattle.language.specs.Claims.{NoRule}
 use Rattle.language.proofs.typing.Names.{Has, has, head-typed}
 
 -- ---- what typing says of values

@@ -14,7 +14,8 @@ use Rattle.language.specs.Names.{Op, Meaning, literal, operator, free, m
 use Rattle.language.specs.Numbers.{Computed, amount, fails}
 use Rattle.language.specs.Limits.{Limits, _⊑_}
 use Rattle.language.specs.Rules.{Val, inZ, inF, inFR, inP, inPR, inA, Env, empty, State, Why, stop, Outcome, ok, halt, bind, need, within, branch, take-unit, take-bindings, with-cells, enter, make, look, give, give-cell, Level, exprs, args, cmds, in-block, read, name-rule, apply-rule, expr-rule, arg-rule, def-rule, rounds, stat-rule, bottom, step, level, start, run}
-use Rattle.language.specs.Outcome.{state-of, NotLimited}
+use Rattle.language.specs.Outcome.{state-of}
+use Rattle.language.specs.Claims.{NotLimited}
 
 -- the numbers of the second list begin with those of the first
 pub data Begins : List ℤ → List ℤ → Type 0 where
