@@ -1,30 +1,25 @@
 -- What the gate says, with document 01's number for each answer.
 use Rattle.language.specs.Library.{ℕ}
 
--- a text or a call is refused (1 to 9)
-pub data Refusal : Type 0 where
+pub data Refusal : Type 0 where  -- a text or a call is refused (1 to 9)
   LENGTH LIMIT TABLE BYTE NUMBER TOKENS SYNTAX LEVEL TYPE : Refusal
 
--- a run is stopped by a limit (20 to 24)
-pub data LimitStop : Type 0 where
+pub data LimitStop : Type 0 where  -- a run is stopped by a limit (20 to 24)
   FUEL DEPTH CELLS BINDINGS OUTPUT : LimitStop
 
--- a run is stopped by an error of the script (25 to 27)
-pub data ErrorStop : Type 0 where
+pub data ErrorStop : Type 0 where  -- a run is stopped by an error of the script (25 to 27)
   RANGE ZERO UNSET : ErrorStop
 
 pub data Stop : Type 0 where
   limit : LimitStop → Stop
   error : ErrorStop → Stop
 
--- an answer: accepted or done, refused at a place, or stopped at a place
-pub data Answer : Type 0 where
+pub data Answer : Type 0 where  -- an answer: accepted or done, refused at a place, or stopped at a place
   done : Answer
   refused : Refusal → (place : ℕ) → Answer
   stopped : Stop → (place : ℕ) → Answer
 
--- what comes of a text or a part of it: something, or a refusal and its place
-pub data Result (A : Type 0) : Type 0 where
+pub data Result (A : Type 0) : Type 0 where  -- what comes of a text or a part of it: something, or a refusal and its place
   fine : A → Result A
   refuse : Refusal → (place : ℕ) → Result A
 

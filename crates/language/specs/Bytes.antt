@@ -11,8 +11,7 @@ abbrev pub bytesOf : String → List ℕ
 bytesOf [] = L.[]
 bytesOf (c ∷ s) = L._∷_ (code c) (bytesOf s)
 
--- every comparison of names and of key words is this one
-abbrev pub same-bytes : List ℕ → List ℕ → Bool
+abbrev pub same-bytes : List ℕ → List ℕ → Bool  -- every comparison of names and of key words is this one
 same-bytes L.[] L.[] = true
 same-bytes L.[] (L._∷_ b y) = false
 same-bytes (L._∷_ a x) L.[] = false

@@ -14,12 +14,10 @@ unfoldable mutual
   levelsTypes (one-type t) d l = levelsType t d l
   levelsTypes (more-types t a) d l = levelsType t d (0 ∷ levelsTypes a d l)
 
--- a parameter
-unfoldable pub levelsArg : Arg → ℕ → List ℕ → List ℕ
+unfoldable pub levelsArg : Arg → ℕ → List ℕ → List ℕ  -- a parameter
 levelsArg (arg x t) d l = 0 ∷ 0 ∷ levelsType t d l
 
--- each parameter with the comma or bracket behind it
-unfoldable pub levelsArgs : List Arg → ℕ → List ℕ → List ℕ
+unfoldable pub levelsArgs : List Arg → ℕ → List ℕ → List ℕ  -- each parameter with the comma or bracket behind it
 levelsArgs [] d l = l
 levelsArgs (a ∷ b) d l = levelsArg a d (0 ∷ levelsArgs b d l)
 
@@ -77,10 +75,8 @@ unfoldable mutual
   pub levelsBlock : Block → ℕ → List ℕ → List ℕ
   levelsBlock (block p c) d l = suc d ∷ levelsCmds c (suc d) (0 ∷ l)
 
--- The level that each word of a program opens.
-unfoldable pub levels : Block → List ℕ
+unfoldable pub levels : Block → List ℕ  -- The level that each word of a program opens.
 levels b = levelsBlock b 0 []
 
--- At most so many levels; else 8 LEVEL, at the word that opens the next.
-abbrev pub deepest : ℕ
+abbrev pub deepest : ℕ  -- At most so many levels; else 8 LEVEL, at the word that opens the next.
 deepest = 64

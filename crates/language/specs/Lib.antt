@@ -1,3 +1,4 @@
+-- The language, said once. What is believed, in the order of reading:
 pub mod Library
 pub mod Syntax
 pub mod Bytes
@@ -17,5 +18,6 @@ pub mod Limits
 pub mod Rules
 pub mod Outcome
 pub mod Promises
+-- What is claimed of it, and proved in proofs/Claims.antt:
 pub mod Desk
 pub mod Claims

@@ -3,8 +3,7 @@ use Rattle.language.specs.Library.{zero, suc, ℤ, pos, negsuc, _+ℤ_, 
 use Rattle.language.specs.Answers.{ErrorStop, RANGE, ZERO}
 use Rattle.language.specs.Names.{Op, not, eq, lt, add, sub, mul, div}
 
--- the least and the greatest number
-abbrev pub least : ℤ
+abbrev pub least : ℤ  -- the least and the greatest number
 least = negsuc 2147483647
 
 abbrev pub greatest : ℤ
@@ -13,24 +12,20 @@ greatest = pos 2147483647
 abbrev pub in-range : ℤ → Bool
 in-range z = cond (leZ least z) (leZ z greatest) false
 
--- div rounds toward zero
-abbrev pub quotient : ℤ → ℤ → ℤ
+abbrev pub quotient : ℤ → ℤ → ℤ  -- div rounds toward zero
 quotient a b = quotZ a b
 
--- a number, or why there is none
-pub data Computed : Type 0 where
+pub data Computed : Type 0 where  -- a number, or why there is none
   amount : ℤ → Computed
   fails : ErrorStop → Computed
 
--- a result outside the range is RANGE
-abbrev pub ranged : ℤ → Computed
+abbrev pub ranged : ℤ → Computed  -- a result outside the range is RANGE
 ranged z = cond (in-range z) (amount z) (fails RANGE)
 
 abbrev pub same-number : ℤ → ℤ → Bool
 same-number a b = cond (leZ a b) (leZ b a) false
 
--- true is 1, false is 0
-abbrev pub bit : Bool → ℤ
+abbrev pub bit : Bool → ℤ  -- true is 1, false is 0
 bit = elim [ true ↦ pos 1 | false ↦ pos 0 ]
 
 abbrev pub as-bit : ℤ → Option Bool
@@ -39,8 +34,7 @@ as-bit = elim [ pos zero ↦ some false | pos (suc zero) ↦ some true | pos (su
 abbrev pub negated : Option Bool → Option Computed
 negated = elim [ none ↦ none | some true ↦ some (amount (bit false)) | some false ↦ some (amount (bit true)) ]
 
--- π₁: not, of 0 or 1
-abbrev pub op1 : Op → ℤ → Option Computed
+abbrev pub op1 : Op → ℤ → Option Computed  -- π₁: not, of 0 or 1
 op1 not a = negated (as-bit a)
 op1 eq a = none
 op1 lt a = none
@@ -49,8 +43,7 @@ op1 sub a = none
 op1 mul a = none
 op1 div a = none
 
--- π₂: div by 0 is ZERO
-abbrev pub op2 : Op → ℤ → ℤ → Option Computed
+abbrev pub op2 : Op → ℤ → ℤ → Option Computed  -- π₂: div by 0 is ZERO
 op2 not a b = none
 op2 eq a b = some (amount (bit (same-number a b)))
 op2 lt a b = some (amount (bit (ltZ a b)))
@@ -59,8 +52,7 @@ op2 sub a b = some (ranged (a -ℤ b))
 op2 mul a b = some (ranged (a *ℤ b))
 op2 div a b = some (cond (same-number b (pos 0)) (fails ZERO) (ranged (quotient a b)))
 
--- an operator applied to numbers: nothing where no rule fits
-abbrev pub compute : Op → List ℤ → Option Computed
+abbrev pub compute : Op → List ℤ → Option Computed  -- an operator applied to numbers: nothing where no rule fits
 compute o [] = none
 compute o (a ∷ []) = op1 o a
 compute o (a ∷ b ∷ []) = op2 o a b

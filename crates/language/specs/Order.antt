@@ -18,16 +18,14 @@ pub data JudgedNode : Type 0 where
 abbrev pub place-node : JudgedNode → ℕ
 place-node = elim [ expr-node Γ e ↦ place-expr e | adr-node Γ p x ↦ p | param-node a ↦ place-param a | def-node Γ d ↦ place-def d | stat-node Γ c ↦ place-stat c ]
 
--- a node that can be typed
-abbrev pub Typed : JudgedNode → Type 0
+abbrev pub Typed : JudgedNode → Type 0  -- a node that can be typed
 Typed (expr-node Γ e) = (t : Ty) × HasE Γ e t
 Typed (adr-node Γ p x) = (q : Par) × HasA Γ (adr p x) q
 Typed (param-node a) = Declarable a
 Typed (def-node Γ d) = (Δ : Ctx) × HasD Γ d Δ
 Typed (stat-node Γ c) = HasS Γ c
 
--- the names after a definition
-abbrev pub after-def : Def → Ctx → Ctx
+abbrev pub after-def : Def → Ctx → Ctx  -- the names after a definition
 after-def (const p (at q x) t e) Γ = (x, plain (value (typeOf t))) ∷ Γ
 after-def (fun p (at q x) t ps e) Γ = (x, plain (value (fun-type ps t))) ∷ Γ
 after-def (fun-rec p (at q x) t ps e) Γ = (x, plain (value (fun-type ps t))) ∷ Γ
@@ -35,13 +33,11 @@ after-def (var p (at q x) t) Γ = (x, plain (ref (typeOf t))) ∷ Γ
 after-def (proc p (at q x) ps b) Γ = (x, procedure (pars ps)) ∷ Γ
 after-def (proc-rec p (at q x) ps b) Γ = (x, procedure (pars ps)) ∷ Γ
 
--- the nodes in the order in which they end; parameters before the body
-abbrev pub nodes-params : List ArgP → List JudgedNode
+abbrev pub nodes-params : List ArgP → List JudgedNode  -- the nodes in the order in which they end; parameters before the body
 nodes-params [] = []
 nodes-params (a ∷ ps) = param-node a ∷ nodes-params ps
 
--- an operator's name at the head is not judged
-abbrev pub nodes-head : Option Op → List JudgedNode → List JudgedNode
+abbrev pub nodes-head : Option Op → List JudgedNode → List JudgedNode  -- an operator's name at the head is not judged
 nodes-head none l = l
 nodes-head (some o) l = []
 
@@ -94,11 +90,9 @@ unfoldable mutual
   nodes-stat Γ (while p e b) = nodes-expr Γ e ++ (nodes-block Γ b ++ (stat-node Γ (while p e b) ∷ []))
   nodes-stat Γ (call p x as′) = nodes-args Γ as′ ++ (stat-node Γ (call p x as′) ∷ [])
 
--- the first of the nodes that cannot be typed stands at q
-pub data FirstBad : List JudgedNode → ℕ → Type 0 where
+pub data FirstBad : List JudgedNode → ℕ → Type 0 where  -- the first of the nodes that cannot be typed stands at q
   here : {n : JudgedNode} {l : List JudgedNode} → ¬ Typed n → FirstBad (n ∷ l) (place-node n)
   later : {n : JudgedNode} {l : List JudgedNode} {q : ℕ} → Typed n → FirstBad l q → FirstBad (n ∷ l) q
 
--- a program is refused with TYPE at q
-abbrev pub TypeRefused : Block → ℕ → Type 0
+abbrev pub TypeRefused : Block → ℕ → Type 0  -- a program is refused with TYPE at q
 TypeRefused b q = FirstBad (nodes-block [] b) q

@@ -9,14 +9,12 @@ abbrev pub state-of : {A : Type 0} → Outcome A → State
 state-of (ok a s) = s
 state-of (halt w p s) = s
 
--- the end, as an answer of document 01; a state that no rule fits has none
-abbrev pub end-of : {A : Type 0} → Outcome A → Option Answer
+abbrev pub end-of : {A : Type 0} → Outcome A → Option Answer  -- the end, as an answer of document 01; a state that no rule fits has none
 end-of (ok a s) = some done
 end-of (halt (stop w) p s) = some (stopped w p)
 end-of (halt no-rule p s) = none
 
--- a report: the end, the counts of what was taken, and the numbers put out, oldest first
-pub record Report : Type 0 where
+pub record Report : Type 0 where  -- a report: the end, the counts of what was taken, and the numbers put out, oldest first
   pub end : Option Answer
   pub units : ℕ
   pub bindings : ℕ
@@ -29,11 +27,9 @@ report-from e s = record { end = e; units = s .units; bindings = s .bindings; ce
 abbrev pub report : Outcome (Unit {0}) → Report
 report o = report-from (end-of o) (state-of o)
 
--- a report of a refusal: nothing was taken or put out
-abbrev pub refusal-report : Refusal → ℕ → Report
+abbrev pub refusal-report : Refusal → ℕ → Report  -- a report of a refusal: nothing was taken or put out
 refusal-report r q = record { end = some (refused r q); units = 0; bindings = 0; cells = 0; numbers = [] }
 
--- what a run reports of a text's verdict: its run if it has a tree, else the refusal
-abbrev pub report-of : Limits → Result Block → Report
+abbrev pub report-of : Limits → Result Block → Report  -- what a run reports of a text's verdict: its run if it has a tree, else the refusal
 report-of L (fine b) = report (run L b)
 report-of L (refuse r p) = refusal-report r p

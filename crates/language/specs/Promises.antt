@@ -23,35 +23,30 @@ verdict-answer (refuse r p) = refused r p
 
 -- ---- tables
 
--- the most bytes of a text (else LENGTH), and the words of a tree table (else TABLE)
-abbrev pub text-bytes : ℕ
+abbrev pub text-bytes : ℕ  -- the most bytes of a text (else LENGTH), and the words of a tree table (else TABLE)
 text-bytes = 16384
 
 abbrev pub tree-words : ℕ
 tree-words = 4096
 
--- a lent table of numbers: how many entries the job may use, and what it holds
-pub record Lent : Type 0 where
+pub record Lent : Type 0 where  -- a lent table of numbers: how many entries the job may use, and what it holds
   pub size : ℕ
   pub holds : List ℕ
 
 abbrev pub tree-table : List ℕ → Lent
 tree-table t = record { size = tree-words; holds = t }
 
--- each table has the entries that the job may use
-abbrev pub large-enough : List Lent → Bool
+abbrev pub large-enough : List Lent → Bool  -- each table has the entries that the job may use
 large-enough [] = true
 large-enough (t ∷ ts) = cond (leb (t .size) (length (t .holds))) (large-enough ts) false
 
--- the first n entries become zero, or these numbers and then zeros; the rest is untouched
-abbrev pub zeroed : ℕ → List ℕ → List ℕ
+abbrev pub zeroed : ℕ → List ℕ → List ℕ  -- the first n entries become zero, or these numbers and then zeros; the rest is untouched
 zeroed n t = replicate n 0 ++ drop n t
 
 abbrev pub holding : ℕ → List ℕ → List ℕ → List ℕ
 holding n l t = l ++ (replicate (n - length l) 0 ++ drop n t)
 
--- tables as they were lent, and tables that are zero as far as the job may use them
-abbrev pub untouched : List Lent → List (List ℕ)
+abbrev pub untouched : List Lent → List (List ℕ)  -- tables as they were lent, and tables that are zero as far as the job may use them
 untouched [] = []
 untouched (t ∷ ts) = t .holds ∷ untouched ts
 
@@ -59,22 +54,19 @@ abbrev pub cleared : List Lent → List (List ℕ)
 cleared [] = []
 cleared (t ∷ ts) = zeroed (t .size) (t .holds) ∷ cleared ts
 
--- the tree table after a verdict: the tree and zeros behind it, or zeros
-abbrev pub tree-after : Result Block → List ℕ → List ℕ
+abbrev pub tree-after : Result Block → List ℕ → List ℕ  -- the tree table after a verdict: the tree and zeros behind it, or zeros
 tree-after (fine b) t = holding tree-words (table b) t
 tree-after (refuse r p) t = zeroed tree-words t
 
 -- ---- CHECK
 
--- what CHECK says, and what the tree table and the working tables then hold
-pub record Checked : Type 0 where
+pub record Checked : Type 0 where  -- what CHECK says, and what the tree table and the working tables then hold
   pub answer : Answer
   pub tree : List ℕ
   pub works : List (List ℕ)
 
 module _ (text tree : List ℕ) (works : List Lent) where
-  -- 1 LENGTH, 3 TABLE: nothing is changed
-  abbrev pub check-refuses : Refusal → Checked
+  abbrev pub check-refuses : Refusal → Checked  -- 1 LENGTH, 3 TABLE: nothing is changed
   check-refuses r = record { answer = refused r 0; tree = tree; works = untouched works }
 
   pub data Check : Checked → Type 0 where
@@ -86,8 +78,7 @@ module _ (text tree : List ℕ) (works : List Lent) where
 
 -- ---- RUN
 
--- what RUN says: an answer, the units, bindings and cells taken, and how many numbers were put out
-pub record Told : Type 0 where
+pub record Told : Type 0 where  -- what RUN says: an answer, the units, bindings and cells taken, and how many numbers were put out
   pub answer : Answer
   pub units : ℕ
   pub bindings : ℕ
@@ -97,8 +88,7 @@ pub record Told : Type 0 where
 abbrev pub told : Answer → State → Told
 told a s = record { answer = a; units = s .units; bindings = s .bindings; cells = length (s .cells); numbers = length (s .numbers) }
 
--- and what the tables then hold: the tree, the working tables, those of bindings and cells, the output
-pub record Ran : Type 0 where
+pub record Ran : Type 0 where  -- and what the tables then hold: the tree, the working tables, those of bindings and cells, the output
   pub says : Told
   pub tree : List ℕ
   pub works : List (List ℕ)
@@ -107,12 +97,10 @@ pub record Ran : Type 0 where
 
 -- `stores` are the tables of bindings and cells, as far as their limits
 module _ (L : Limits) (text tree : List ℕ) (works stores : List Lent) (output : List ℤ) where
-  -- all tables are large enough, the output table for its limit
-  abbrev pub all-large : Bool
+  abbrev pub all-large : Bool  -- all tables are large enough, the output table for its limit
   all-large = cond (leb (L .output) (length output)) (large-enough (tree-table tree ∷ (works ++ stores))) false
 
-  -- 1 LENGTH, 2 LIMIT, 3 TABLE: nothing is changed
-  abbrev pub run-refuses : Refusal → Ran
+  abbrev pub run-refuses : Refusal → Ran  -- 1 LENGTH, 2 LIMIT, 3 TABLE: nothing is changed
   run-refuses r = record { says = told (refused r 0) start; tree = tree; works = untouched works; stores = untouched stores; output = output }
 
   -- the run of the tree b, with the answer a: its numbers are put out, and the rest of the output table is as it was

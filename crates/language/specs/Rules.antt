@@ -31,37 +31,31 @@ pub record State : Type 0 where
   pub cells : List (Option Val)
   pub numbers : List ℤ
 
--- why a run ends early
-pub data Why : Type 0 where
+pub data Why : Type 0 where  -- why a run ends early
   stop : Stop → Why
   no-rule : Why
 
--- what a rule comes to: a result and a state, or an early end, its place and the state there
-pub data Outcome (A : Type 0) : Type 0 where
+pub data Outcome (A : Type 0) : Type 0 where  -- what a rule comes to: a result and a state, or an early end, its place and the state there
   ok : A → State → Outcome A
   halt : Why → (place : ℕ) → State → Outcome A
 
 -- ---- how rules are put together
 
 module _ {A B : Type 0} where
-  -- one part, and then the rest
-  unfoldable pub bind : Outcome A → (A → State → Outcome B) → Outcome B
+  unfoldable pub bind : Outcome A → (A → State → Outcome B) → Outcome B  -- one part, and then the rest
   bind (ok a s) k = k a s
   bind (halt w p s) k = halt w p s
 
-  -- a rule that wants a certain form: no rule fits any other
-  unfoldable pub need : Option A → ℕ → State → (A → Outcome B) → Outcome B
+  unfoldable pub need : Option A → ℕ → State → (A → Outcome B) → Outcome B  -- a rule that wants a certain form: no rule fits any other
   need none p s k = halt no-rule p s
   need (some a) p s k = k a
 
 module _ {A : Type 0} where
-  -- a limit that must hold
-  unfoldable pub within : Bool → LimitStop → ℕ → State → Outcome A → Outcome A
+  unfoldable pub within : Bool → LimitStop → ℕ → State → Outcome A → Outcome A  -- a limit that must hold
   within true l p s o = o
   within false l p s o = halt (stop (limit l)) p s
 
-  -- two rules, for 1 and for 0
-  unfoldable pub branch : Bool → Outcome A → Outcome A → Outcome A
+  unfoldable pub branch : Bool → Outcome A → Outcome A → Outcome A  -- two rules, for 1 and for 0
   branch true a b = a
   branch false a b = b
 
@@ -78,12 +72,10 @@ abbrev pub put-out : ℤ → State → State
 put-out n s = record { units = s .units; bindings = s .bindings; cells = s .cells; numbers = s .numbers ++ n ∷ [] }
 
 module _ {A : Type 0} (L : Limits) where
-  -- an entry: FUEL if no unit is left, else a unit is taken
-  abbrev pub enter : ℕ → State → (State → Outcome A) → Outcome A
+  abbrev pub enter : ℕ → State → (State → Outcome A) → Outcome A  -- an entry: FUEL if no unit is left, else a unit is taken
   enter p s k = within (ltb (s .units) (L .fuel)) FUEL p s (k (take-unit s))
 
-  -- n bindings are made, all or none
-  abbrev pub make : ℕ → ℕ → State → (State → Outcome A) → Outcome A
+  abbrev pub make : ℕ → ℕ → State → (State → Outcome A) → Outcome A  -- n bindings are made, all or none
   make n p s k = within (leb (n + s .bindings) (L .bindings)) BINDINGS p s (k (take-bindings n s))
 
 -- ---- names, cells and the forms that rules ask for
@@ -92,29 +84,25 @@ abbrev pub lookup-env : Env → Name → Option Val
 lookup-env empty x = none
 lookup-env (bound y v ρ) x = cond (same-bytes y x) (some v) (lookup-env ρ x)
 
--- ρ(x)
-abbrev pub look : Env → Name → Option Val
+abbrev pub look : Env → Name → Option Val  -- ρ(x)
 look ρ x = unless-nine (meaning x) (lookup-env ρ x)
 
--- ρ[x₁ = v₁; …; xₙ = vₙ], for as many values as names
-abbrev pub bind-all : List Name → List Val → Env → Option Env
+abbrev pub bind-all : List Name → List Val → Env → Option Env  -- ρ[x₁ = v₁; …; xₙ = vₙ], for as many values as names
 bind-all [] [] ρ = some ρ
 bind-all [] (v ∷ vs) ρ = none
 bind-all (x ∷ xs) [] ρ = none
 bind-all (x ∷ xs) (v ∷ vs) ρ = bind-all xs vs (bound x v ρ)
 
--- σ(a)
-abbrev pub nth {ℓ} : {A : Type ℓ} → List A → ℕ → Option A
+abbrev pub nth {ℓ} : {A : Type ℓ} → List A → ℕ → Option A  -- σ(a)
 nth [] a = none
 nth (c ∷ cs) zero = some c
 nth (c ∷ cs) (suc a) = nth cs a
 
--- σ[a := v], for an a that is taken
 abbrev pub behind : {A : Type 0} → A → Option (List A) → Option (List A)
 behind c none = none
 behind c (some cs) = some (c ∷ cs)
 
-abbrev pub store : List (Option Val) → ℕ → Val → Option (List (Option Val))
+abbrev pub store : List (Option Val) → ℕ → Val → Option (List (Option Val))  -- σ[a := v], for an a that is taken
 store [] a v = none
 store (c ∷ cs) zero v = some (some v ∷ cs)
 store (c ∷ cs) (suc a) v = behind c (store cs a v)
@@ -126,8 +114,7 @@ abbrev pub if-number : {A : Type 0} → Option ℤ → (ℤ → Option A) → Op
 if-number none k = none
 if-number (some n) k = k n
 
--- inZ(1) or inZ(0)
-abbrev pub as-truth : Val → Option Bool
+abbrev pub as-truth : Val → Option Bool  -- inZ(1) or inZ(0)
 as-truth v = if-number (as-number v) as-bit
 
 abbrev pub as-address : Val → Option ℕ
@@ -141,12 +128,10 @@ abbrev pub if-numbers : Option (List ℤ) → (List ℤ → Option Computed) →
 if-numbers none k = none
 if-numbers (some l) k = k l
 
--- an operator applied to values
-abbrev pub operate : Op → List Val → Option Computed
+abbrev pub operate : Op → List Val → Option Computed  -- an operator applied to values
 operate o vs = if-numbers (as-numbers vs) (compute o)
 
--- what a call enters: a body, under which names, and how many bindings it makes
-pub record Entered (B : Type 0) : Type 0 where
+pub record Entered (B : Type 0) : Type 0 where  -- what a call enters: a body, under which names, and how many bindings it makes
   pub body : B
   pub env : Env
   pub count : ℕ
@@ -155,8 +140,7 @@ abbrev pub entering : {B : Type 0} → B → ℕ → Option Env → Option (Ente
 entering b n none = none
 entering b n (some ρ) = some (record { body = b; env = ρ; count = n })
 
--- a recursive one's name is bound after its parameters
-abbrev pub also : Name → Val → Option Env → Option Env
+abbrev pub also : Name → Val → Option Env → Option Env  -- a recursive one's name is bound after its parameters
 also f v none = none
 also f v (some ρ) = some (bound f v ρ)
 
@@ -194,8 +178,7 @@ pub record Level : Type 0 where
   pub def : Def → Env → State → Outcome Env
   pub stat : Stat → Env → State → Outcome (Unit {0})
 
--- e₁ … eₙ, left to right
-abbrev pub exprs : Level → Exprs → Env → State → Outcome (List Val)
+abbrev pub exprs : Level → Exprs → Env → State → Outcome (List Val)  -- e₁ … eₙ, left to right
 exprs r (one-expr e) ρ s = bind (r .expr e ρ s) λ v s₁. ok (v ∷ []) s₁
 exprs r (more-exprs e es) ρ s = bind (r .expr e ρ s) λ v s₁. bind (exprs r es ρ s₁) λ vs s₂. ok (v ∷ vs) s₂
 
@@ -203,18 +186,15 @@ abbrev pub args : Level → List ExprP → Env → State → Outcome (List Val)
 args r [] ρ s = ok [] s
 args r (a ∷ as′) ρ s = bind (r .arg a ρ s) λ v s₁. bind (args r as′ ρ s₁) λ vs s₂. ok (v ∷ vs) s₂
 
--- (DECS), (STATS), (END)
-abbrev pub cmds : Level → Cmds → Env → State → Outcome (Unit {0})
+abbrev pub cmds : Level → Cmds → Env → State → Outcome (Unit {0})  -- (DECS), (STATS), (END)
 cmds r (def-then d cs) ρ s = bind (r .def d ρ s) λ ρ₁ s₁. cmds r cs ρ₁ s₁
 cmds r (stat-then c cs) ρ s = bind (r .stat c ρ s) λ u s₁. cmds r cs ρ s₁
 cmds r (last c) ρ s = r .stat c ρ s
 
--- (BLOCK)
-abbrev pub in-block : Level → Block → Env → State → Outcome (Unit {0})
+abbrev pub in-block : Level → Block → Env → State → Outcome (Unit {0})  -- (BLOCK)
 in-block r (block p cs) ρ s = cmds r cs ρ s
 
--- (ID1) an address is read through, (ID2) any other value is the name's
-abbrev pub read : Val → ℕ → State → Outcome Val
+abbrev pub read : Val → ℕ → State → Outcome Val  -- (ID1) an address is read through, (ID2) any other value is the name's
 read (inZ n) p s = ok (inZ n) s
 read (inF e xs ρ) p s = ok (inF e xs ρ) s
 read (inFR e f xs ρ) p s = ok (inFR e f xs ρ) s
@@ -222,8 +202,7 @@ read (inP b xs ρ) p s = ok (inP b xs ρ) s
 read (inPR b f xs ρ) p s = ok (inPR b f xs ρ) s
 read (inA a) p s = need (nth (s .cells) a) p s λ c. give-cell c p s
 
--- (TRUE), (FALSE), (ID1), (ID2); an operator's name alone has no rule
-abbrev pub name-rule : Meaning → Option Val → ℕ → State → Outcome Val
+abbrev pub name-rule : Meaning → Option Val → ℕ → State → Outcome Val  -- (TRUE), (FALSE), (ID1), (ID2); an operator's name alone has no rule
 name-rule (literal b) o p s = ok (inZ (bit b)) s
 name-rule (operator f) o p s = halt no-rule p s
 name-rule free o p s = need o p s λ v. read v p s
@@ -235,8 +214,7 @@ apply-rule L r none p f es ρ s =
     bind (r .expr f ρ s) λ v s₁. bind (exprs r es ρ s₁) λ vs s₂. need (open-function v vs) p s₂ λ c. make L (c .count) p s₂ λ s₃. r .expr (c .body) (c .env) s₃
 
 abbrev pub expr-rule : Limits → Level → Expr → Env → State → Outcome Val
--- (NUM)
-expr-rule L r (num p n) ρ s = ok (inZ n) s
+expr-rule L r (num p n) ρ s = ok (inZ n) s  -- (NUM)
 expr-rule L r (name (at p x)) ρ s = name-rule (meaning x) (look ρ x) p s
 -- (IF1), (IF0)
 expr-rule L r (if-expr p a b c) ρ s = bind (r .expr a ρ s) λ v s₁. need (as-truth v) p s₁ λ t. branch t (r .expr b ρ s₁) (r .expr c ρ s₁)
@@ -245,26 +223,21 @@ expr-rule L r (and p a b) ρ s = bind (r .expr a ρ s) λ v s₁. need (as-truth
 -- (OR1), (OR0)
 expr-rule L r (or p a b) ρ s = bind (r .expr a ρ s) λ v s₁. need (as-truth v) p s₁ λ t. branch t (ok (inZ (pos 1)) s₁) (r .expr b ρ s₁)
 expr-rule L r (app p f es) ρ s = apply-rule L r (head-operator f) p f es ρ s
--- (ABS)
-expr-rule L r (abs p ps e) ρ s = ok (inF e (param-names (values ps)) ρ) s
+expr-rule L r (abs p ps e) ρ s = ok (inF e (param-names (values ps)) ρ) s  -- (ABS)
 
--- (VAL), (REF): the address, which is not read
-abbrev pub arg-rule : Limits → Level → ExprP → Env → State → Outcome Val
+abbrev pub arg-rule : Limits → Level → ExprP → Env → State → Outcome Val  -- (VAL), (REF): the address, which is not read
 arg-rule L r (val e) ρ s = expr-rule L r e ρ s
 arg-rule L r (adr p (at q x)) ρ s = need (look ρ x) p s λ v. need (as-address v) p s λ a. ok (inA a) s
 
 abbrev pub def-rule : Limits → Level → Def → Env → State → Outcome Env
--- (CONST)
-def-rule L r (const p (at q x) t e) ρ s = bind (r .expr e ρ s) λ v s₁. make L 1 p s₁ λ s₂. ok (bound x v ρ) s₂
--- (FUN), (FUNREC)
-def-rule L r (fun p (at q x) t ps e) ρ s = make L 1 p s λ s₁. ok (bound x (inF e (param-names (values ps)) ρ) ρ) s₁
+def-rule L r (const p (at q x) t e) ρ s = bind (r .expr e ρ s) λ v s₁. make L 1 p s₁ λ s₂. ok (bound x v ρ) s₂  -- (CONST)
+def-rule L r (fun p (at q x) t ps e) ρ s = make L 1 p s λ s₁. ok (bound x (inF e (param-names (values ps)) ρ) ρ) s₁  -- (FUN), (FUNREC)
 def-rule L r (fun-rec p (at q x) t ps e) ρ s = make L 1 p s λ s₁. ok (bound x (inFR e x (param-names (values ps)) ρ) ρ) s₁
 -- (VAR) a fresh cell, which is unset; then a binding
 def-rule L r (var p (at q x) t) ρ s =
     within (ltb (length (s .cells)) (L .cells)) CELLS p s
     (make L 1 p (with-cells (s .cells ++ none ∷ []) s) λ s₁. ok (bound x (inA (length (s .cells))) ρ) s₁)
--- (PROC), (PROCREC)
-def-rule L r (proc p (at q x) ps b) ρ s = make L 1 p s λ s₁. ok (bound x (inP b (param-names ps) ρ) ρ) s₁
+def-rule L r (proc p (at q x) ps b) ρ s = make L 1 p s λ s₁. ok (bound x (inP b (param-names ps) ρ) ρ) s₁  -- (PROC), (PROCREC)
 def-rule L r (proc-rec p (at q x) ps b) ρ s = make L 1 p s λ s₁. ok (bound x (inPR b x (param-names ps) ρ) ρ) s₁
 
 -- the rounds of a WHILE that is entered: each ends by entering it anew. The count makes the recursion structural and never ends a loop:
@@ -284,16 +257,14 @@ stat-rule L r (set p (at q x) e) ρ s =
     need (look ρ x) p s λ w. need (as-address w) p s λ a. bind (r .expr e ρ s) λ v s₁. need (store (s₁ .cells) a v) p s₁ λ c. ok tt (with-cells c s₁)
 -- (IF1), (IF0)
 stat-rule L r (if-stat p e a b) ρ s = bind (r .expr e ρ s) λ v s₁. need (as-truth v) p s₁ λ t. branch t (in-block r a ρ s₁) (in-block r b ρ s₁)
--- (LOOP0), (LOOP1)
-stat-rule L r (while p e b) ρ s = rounds L (suc (L .fuel)) (r .expr e ρ) (in-block r b ρ) p s
+stat-rule L r (while p e b) ρ s = rounds L (suc (L .fuel)) (r .expr e ρ) (in-block r b ρ) p s  -- (LOOP0), (LOOP1)
 -- (CALL), (CALLR): arguments, bindings, block
 stat-rule L r (call p (at q x) as′) ρ s =
     need (look ρ x) p s λ w. bind (args r as′ ρ s) λ vs s₁. need (open-procedure w vs) p s₁ λ c. make L (c .count) p s₁ λ s₂. in-block r (c .body) (c .env) s₂
 
 -- ---- depth
 
--- no depth left: an entry takes its unit and is DEPTH
-abbrev pub bottom : Limits → Level
+abbrev pub bottom : Limits → Level  -- no depth left: an entry takes its unit and is DEPTH
 bottom L = record {
   expr = λ e ρ s. enter L (place-expr e) s λ s₁. halt (stop (limit DEPTH)) (place-expr e) s₁;
   arg = λ a ρ s. enter L (place-arg a) s λ s₁. halt (stop (limit DEPTH)) (place-arg a) s₁;
@@ -301,8 +272,7 @@ bottom L = record {
   stat = λ c ρ s. enter L (place-stat c) s λ s₁. halt (stop (limit DEPTH)) (place-stat c) s₁;
 }
 
--- one level: an entry takes its unit, and then its rule is followed with the level below
-abbrev pub step : Limits → Level → Level
+abbrev pub step : Limits → Level → Level  -- one level: an entry takes its unit, and then its rule is followed with the level below
 step L r = record {
   expr = λ e ρ s. enter L (place-expr e) s λ s₁. expr-rule L r e ρ s₁;
   arg = λ a ρ s. enter L (place-arg a) s λ s₁. arg-rule L r a ρ s₁;
@@ -310,15 +280,12 @@ step L r = record {
   stat = λ c ρ s. enter L (place-stat c) s λ s₁. stat-rule L r c ρ s₁;
 }
 
--- the evaluators with d levels left
-unfoldable pub level : Limits → ℕ → Level
+unfoldable pub level : Limits → ℕ → Level  -- the evaluators with d levels left
 level L zero = bottom L
 level L (suc d) = step L (level L d)
 
--- no units, no bindings, no cells, no numbers
-abbrev pub start : State
+abbrev pub start : State  -- no units, no bindings, no cells, no numbers
 start = record { units = 0; bindings = 0; cells = []; numbers = [] }
 
--- (PROG) a program is its block, run from no bindings, no cells and no numbers
-abbrev pub run : Limits → Block → Outcome (Unit {0})
+abbrev pub run : Limits → Block → Outcome (Unit {0})  -- (PROG) a program is its block, run from no bindings, no cells and no numbers
 run L b = in-block (level L (L .depth)) b empty start

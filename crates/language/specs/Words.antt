@@ -6,13 +6,11 @@ use Rattle.language.specs.Places.{place-ident}
 use Rattle.language.specs.Answers.{Refusal, BYTE, NUMBER, Result, fine, refuse}
 use Rattle.language.specs.Numbers.{in-range}
 
--- The symbols and the key words.
-pub data Mark : Type 0 where
+pub data Mark : Type 0 where  -- The symbols and the key words.
   kLbr kRbr kLpar kRpar kSemi kColon kComma kStar kArrow : Mark
   kCONST kFUN kREC kVAR kPROC kECHO kSET kIF kWHILE kCALL kif kand kor kbool kint kvar kadr : Mark
 
--- A word of a text, with the place of its first byte.
-pub data Word : Type 0 where
+pub data Word : Type 0 where  -- A word of a text, with the place of its first byte.
   mark : Mark → (place : ℕ) → Word
   number : (place : ℕ) → ℤ → Word
   named : Ident → Word
@@ -20,8 +18,7 @@ pub data Word : Type 0 where
 abbrev pub place-word : Word → ℕ
 place-word = elim [ mark m p ↦ p | number p z ↦ p | named x ↦ place-ident x ]
 
--- Separators, letters, digits.
-abbrev pub oneOf : List ℕ → ℕ → Bool
+abbrev pub oneOf : List ℕ → ℕ → Bool  -- Separators, letters, digits.
 oneOf [] b = false
 oneOf (x ∷ s) b = eqb b x || oneOf s b
 
@@ -37,13 +34,11 @@ isDigit b = leb 48 b && leb b 57
 abbrev pub isPlain : ℕ → Bool
 isPlain b = isLetter b || isDigit b
 
--- The longest front whose bytes pass a test.
-abbrev pub stretch : (ℕ → Bool) → List ℕ → List ℕ
+abbrev pub stretch : (ℕ → Bool) → List ℕ → List ℕ  -- The longest front whose bytes pass a test.
 stretch p [] = []
 stretch p (b ∷ s) = cond (p b) (b ∷ stretch p s) []
 
--- What a spelling means; the first line that has it counts.
-pub data Spelling : Type 0 where
+pub data Spelling : Type 0 where  -- What a spelling means; the first line that has it counts.
   means : String → Mark → Spelling
 
 abbrev pub symbols : List Spelling
@@ -66,21 +61,17 @@ pub data Front : Type 0 where
   word : Word → (more : ℕ) → Front
   bad : Refusal → Front
 
--- Letters and digits, from a letter on: a key word or a name.
-abbrev pub spelled : ℕ → List ℕ → Front
+abbrev pub spelled : ℕ → List ℕ → Front  -- Letters and digits, from a letter on: a key word or a name.
 spelled i w = elim (mark-of keyWords w) [ none ↦ word (named (at i w)) (length w - 1) | some m ↦ word (mark m i) (length w - 1) ]
 
--- The number that digits write, after those that write n.
-abbrev pub decimal : ℕ → List ℕ → ℕ
+abbrev pub decimal : ℕ → List ℕ → ℕ  -- The number that digits write, after those that write n.
 decimal n [] = n
 decimal n (b ∷ s) = decimal (n * 10 + (b - 48)) s
 
--- a written number must be in the range
-abbrev pub numeral : ℕ → ℤ → ℕ → Front
+abbrev pub numeral : ℕ → ℤ → ℕ → Front  -- a written number must be in the range
 numeral i z more = cond (in-range z) (word (number i z) more) (bad NUMBER)
 
--- After a `-`: the arrow, a number, or a byte in no word.
-abbrev pub minus : ℕ → List ℕ → Front
+abbrev pub minus : ℕ → List ℕ → Front  -- After a `-`: the arrow, a number, or a byte in no word.
 minus i [] = bad BYTE
 minus i (b ∷ s) =
     cond (eqb b 62) (word (mark kArrow i) 1)
@@ -89,8 +80,7 @@ minus i (b ∷ s) =
 abbrev pub symbol : ℕ → ℕ → Front
 symbol i b = elim (mark-of symbols (b ∷ [])) [ none ↦ bad BYTE | some m ↦ word (mark m i) 0 ]
 
--- What begins with the byte b at place i, before the bytes s.
-abbrev pub front : ℕ → ℕ → List ℕ → Front
+abbrev pub front : ℕ → ℕ → List ℕ → Front  -- What begins with the byte b at place i, before the bytes s.
 front i b s =
     cond (isSep b) gap
     (cond (isLetter b) (spelled i (stretch isPlain (b ∷ s)))
@@ -111,8 +101,7 @@ wordsFrom (b ∷ s) zero i =
 abbrev pub wordsOf : List ℕ → (Result (List Word))
 wordsOf s = wordsFrom s 0 0
 
--- At most so many words; else 6 TOKENS, at the next.
-abbrev pub most : ℕ
+abbrev pub most : ℕ  -- At most so many words; else 6 TOKENS, at the next.
 most = 4096
 
 -- NAME, for the report desk: the longest stretch of letters and digits from a place, if it starts with a letter.
