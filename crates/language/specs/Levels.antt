@@ -75,8 +75,8 @@ unfoldable mutual
   pub levelsBlock : Block → ℕ → List ℕ → List ℕ
   levelsBlock (block p c) d l = suc d ∷ levelsCmds c (suc d) (0 ∷ l)
 
-unfoldable pub levels : Block → List ℕ  -- The level that each word of a program opens.
+unfoldable pub levels : Block → List ℕ  -- the level that each word of a program opens
 levels b = levelsBlock b 0 []
 
-abbrev pub deepest : ℕ  -- At most so many levels; else 8 LEVEL, at the word that opens the next.
+abbrev pub deepest : ℕ  -- at most so many levels; else 8 LEVEL, at the word that opens the next
 deepest = 64

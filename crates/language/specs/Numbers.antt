@@ -3,10 +3,10 @@ use Rattle.language.specs.Library.{zero, suc, ℤ, pos, negsuc, _+ℤ_, 
 use Rattle.language.specs.Answers.{ErrorStop, RANGE, ZERO}
 use Rattle.language.specs.Names.{Op, not, eq, lt, add, sub, mul, div}
 
-abbrev pub least : ℤ  -- the least and the greatest number
+abbrev pub least : ℤ  -- the least number
 least = negsuc 2147483647
 
-abbrev pub greatest : ℤ
+abbrev pub greatest : ℤ  -- the greatest number
 greatest = pos 2147483647
 
 abbrev pub in-range : ℤ → Bool

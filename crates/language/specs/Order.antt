@@ -33,7 +33,7 @@ after-def (var p (at q x) t) Γ = (x, plain (ref (typeOf t))) ∷ Γ
 after-def (proc p (at q x) ps b) Γ = (x, procedure (pars ps)) ∷ Γ
 after-def (proc-rec p (at q x) ps b) Γ = (x, procedure (pars ps)) ∷ Γ
 
-abbrev pub nodes-params : List ArgP → List JudgedNode  -- the nodes in the order in which they end; parameters before the body
+abbrev pub nodes-params : List ArgP → List JudgedNode  -- parameters end before the body
 nodes-params [] = []
 nodes-params (a ∷ ps) = param-node a ∷ nodes-params ps
 
@@ -41,6 +41,7 @@ abbrev pub nodes-head : Option Op → List JudgedNode → List JudgedNode  -- an
 nodes-head none l = l
 nodes-head (some o) l = []
 
+-- the nodes of a tree in the order in which they end
 unfoldable mutual
   pub nodes-expr : Ctx → Expr → List JudgedNode
   nodes-expr Γ (num p n) = expr-node Γ (num p n) ∷ []

@@ -23,10 +23,10 @@ verdict-answer (refuse r p) = refused r p
 
 -- ---- tables
 
-abbrev pub text-bytes : ℕ  -- the most bytes of a text (else LENGTH), and the words of a tree table (else TABLE)
+abbrev pub text-bytes : ℕ  -- the most bytes of a text, else LENGTH
 text-bytes = 16384
 
-abbrev pub tree-words : ℕ
+abbrev pub tree-words : ℕ  -- the words of a tree table, else TABLE
 tree-words = 4096
 
 pub record Lent : Type 0 where  -- a lent table of numbers: how many entries the job may use, and what it holds
@@ -40,17 +40,17 @@ abbrev pub large-enough : List Lent → Bool  -- each table has the entries that
 large-enough [] = true
 large-enough (t ∷ ts) = cond (leb (t .size) (length (t .holds))) (large-enough ts) false
 
-abbrev pub zeroed : ℕ → List ℕ → List ℕ  -- the first n entries become zero, or these numbers and then zeros; the rest is untouched
+abbrev pub zeroed : ℕ → List ℕ → List ℕ  -- the first n entries become zero, the rest is untouched
 zeroed n t = replicate n 0 ++ drop n t
 
-abbrev pub holding : ℕ → List ℕ → List ℕ → List ℕ
+abbrev pub holding : ℕ → List ℕ → List ℕ → List ℕ  -- the first n entries become these numbers and then zeros
 holding n l t = l ++ (replicate (n - length l) 0 ++ drop n t)
 
-abbrev pub untouched : List Lent → List (List ℕ)  -- tables as they were lent, and tables that are zero as far as the job may use them
+abbrev pub untouched : List Lent → List (List ℕ)  -- tables as they were lent
 untouched [] = []
 untouched (t ∷ ts) = t .holds ∷ untouched ts
 
-abbrev pub cleared : List Lent → List (List ℕ)
+abbrev pub cleared : List Lent → List (List ℕ)  -- tables that are zero as far as the job may use them
 cleared [] = []
 cleared (t ∷ ts) = zeroed (t .size) (t .holds) ∷ cleared ts
 

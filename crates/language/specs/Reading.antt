@@ -6,7 +6,7 @@ use Rattle.language.specs.Words.{Word, place-word, wordsOf, most}
 use Rattle.language.specs.Grammar.{BLOCK, Reads, Program, Begins}
 use Rattle.language.specs.Levels.{levels, deepest}
 
-pub record Opens (pre : List Word) (ls : List ℕ) : Type 0 where  -- Some program begins with the words `pre`, and in it they open the levels `ls`.
+pub record Opens (pre : List Word) (ls : List ℕ) : Type 0 where  -- some program begins with the words `pre`, and in it they open the levels `ls`
   pub rest : List Word
   pub tree : Block
   pub reads : Reads BLOCK tree (pre ++ rest) []
@@ -14,11 +14,11 @@ pub record Opens (pre : List Word) (ls : List ℕ) : Type 0 where  -- Some progr
   pub opens : levels tree ≡ ls ++ more
   pub each : length ls ≡ length pre
 
-pub data Within (d : ℕ) : List ℕ → Type 0 where  -- No level is deeper than `d`.
+pub data Within (d : ℕ) : List ℕ → Type 0 where  -- no level is deeper than `d`
   no-level : Within d []
   a-level : {l : ℕ} {ls : List ℕ} → l ≤ d → Within d ls → Within d (l ∷ ls)
 
-abbrev pub Ends : List Word → List Word → Type 0  -- With the first of `rest` the words begin no program any more; at the end, they are none.
+abbrev pub Ends : List Word → List Word → Type 0  -- with the first of `rest` the words begin no program any more; at the end, they are none
 Ends pre [] = ¬ Program pre
 Ends pre (x ∷ rest) = ¬ Begins (pre ++ (x ∷ []))
 
@@ -26,7 +26,7 @@ abbrev pub placeIn : List ℕ → List Word → ℕ  -- the place of the first o
 placeIn s [] = length s
 placeIn s (x ∷ rest) = place-word x
 
-pub data Reading (s : List ℕ) : (Result Block) → Type 0 where  -- The answers to the text `s`, in the order of document 01.
+pub data Reading (s : List ℕ) : (Result Block) → Type 0 where  -- the answers to the text `s`, in the order of document 01
   -- 4 BYTE, 5 NUMBER: the first in the whole text, at its place
   bad-word : {r : Refusal} {p : ℕ} → wordsOf s ≡ refuse r p → Reading s (refuse r p)
   -- 6 TOKENS: more than 4,096 words, at the 4,097th

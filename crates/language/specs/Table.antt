@@ -3,7 +3,7 @@ use Rattle.language.specs.Library.{ℕ, _+_, _*_, List, [], _∷_, _++_,
 use Rattle.language.specs.Syntax.{Ident, TypeTree, bool, int, arrow, TypeTrees, one-type, more-types, Arg, arg, ArgP, val-arg, var-arg, Expr, num, name, if-expr, and, or, app, abs, Exprs, one-expr, more-exprs, ExprP, val, adr, Cmds, last, def-then, stat-then, Def, const, fun, fun-rec, var, proc, proc-rec, Stat, echo, set, if-stat, while, call, Block, block}
 use Rattle.language.specs.Places.{place-ident}
 
-pub data Forest : Type 0 where  -- A node without children, or with them; then the siblings that follow it.
+pub data Forest : Type 0 where  -- a node without children, or with them; then the siblings that follow it
   none : Forest
   leaf : (kind place : ℕ) → (next : Forest) → Forest
   fork : (kind place : ℕ) → (kids next : Forest) → Forest
@@ -83,7 +83,7 @@ unfoldable mutual
   pub shapeBlock : Block → Forest → Forest
   shapeBlock (block p c) s = fork 1 p (shapeCmds c none) s
 
-pub data Node : Type 0 where  -- A node of the table: kind, place, first child, next sibling, most significant first.
+pub data Node : Type 0 where  -- a node of the table: kind, place, first child, next sibling, most significant first
   node : ℕ → ℕ → ℕ → ℕ → Node
 
 abbrev pub wordOf : Node → ℕ
@@ -94,15 +94,15 @@ size none = 0
 size (leaf k p s) = 1 + size s
 size (fork k p c s) = 1 + size c + size s
 
-unfoldable pub first : Forest → ℕ → ℕ  -- The number of a forest's first node, if that is `i`; 0 where it has none.
+unfoldable pub first : Forest → ℕ → ℕ  -- the number of a forest's first node, if that is `i`; 0 where it has none
 first none i = 0
 first (leaf k p s) i = i
 first (fork k p c s) i = i
 
-unfoldable pub enc : Forest → ℕ → List Node  -- The nodes of a forest, numbered from `n` in text order.
+unfoldable pub enc : Forest → ℕ → List Node  -- the nodes of a forest, numbered from `n` in text order
 enc none n = []
 enc (leaf k p s) n = node k p 0 (first s (n + 1)) ∷ enc s (n + 1)
 enc (fork k p c s) n = node k p (n + 1) (first s (n + 1 + size c)) ∷ enc c (n + 1) ++ enc s (n + 1 + size c)
 
-unfoldable pub table : Block → List ℕ  -- The tree table of a program.
+unfoldable pub table : Block → List ℕ  -- the tree table of a program
 table b = map wordOf (enc (shapeBlock b none) 0)

@@ -6,11 +6,11 @@ use Rattle.language.specs.Places.{place-ident}
 use Rattle.language.specs.Answers.{Refusal, BYTE, NUMBER, Result, fine, refuse}
 use Rattle.language.specs.Numbers.{in-range}
 
-pub data Mark : Type 0 where  -- The symbols and the key words.
+pub data Mark : Type 0 where  -- the symbols and the key words
   kLbr kRbr kLpar kRpar kSemi kColon kComma kStar kArrow : Mark
   kCONST kFUN kREC kVAR kPROC kECHO kSET kIF kWHILE kCALL kif kand kor kbool kint kvar kadr : Mark
 
-pub data Word : Type 0 where  -- A word of a text, with the place of its first byte.
+pub data Word : Type 0 where  -- a word of a text, with the place of its first byte
   mark : Mark → (place : ℕ) → Word
   number : (place : ℕ) → ℤ → Word
   named : Ident → Word
@@ -18,11 +18,11 @@ pub data Word : Type 0 where  -- A word of a text, with the place of its first b
 abbrev pub place-word : Word → ℕ
 place-word = elim [ mark m p ↦ p | number p z ↦ p | named x ↦ place-ident x ]
 
-abbrev pub oneOf : List ℕ → ℕ → Bool  -- Separators, letters, digits.
+abbrev pub oneOf : List ℕ → ℕ → Bool  -- a byte that is one of these
 oneOf [] b = false
 oneOf (x ∷ s) b = eqb b x || oneOf s b
 
-abbrev pub isSep : ℕ → Bool
+abbrev pub isSep : ℕ → Bool  -- a separator
 isSep b = oneOf (bytesOf " \t\n\r") b
 
 abbrev pub isLetter : ℕ → Bool
@@ -34,11 +34,11 @@ isDigit b = leb 48 b && leb b 57
 abbrev pub isPlain : ℕ → Bool
 isPlain b = isLetter b || isDigit b
 
-abbrev pub stretch : (ℕ → Bool) → List ℕ → List ℕ  -- The longest front whose bytes pass a test.
+abbrev pub stretch : (ℕ → Bool) → List ℕ → List ℕ  -- the longest front whose bytes pass a test
 stretch p [] = []
 stretch p (b ∷ s) = cond (p b) (b ∷ stretch p s) []
 
-pub data Spelling : Type 0 where  -- What a spelling means; the first line that has it counts.
+pub data Spelling : Type 0 where  -- what a spelling means; the first line that has it counts
   means : String → Mark → Spelling
 
 abbrev pub symbols : List Spelling
@@ -61,17 +61,17 @@ pub data Front : Type 0 where
   word : Word → (more : ℕ) → Front
   bad : Refusal → Front
 
-abbrev pub spelled : ℕ → List ℕ → Front  -- Letters and digits, from a letter on: a key word or a name.
+abbrev pub spelled : ℕ → List ℕ → Front  -- letters and digits, from a letter on: a key word or a name
 spelled i w = elim (mark-of keyWords w) [ none ↦ word (named (at i w)) (length w - 1) | some m ↦ word (mark m i) (length w - 1) ]
 
-abbrev pub decimal : ℕ → List ℕ → ℕ  -- The number that digits write, after those that write n.
+abbrev pub decimal : ℕ → List ℕ → ℕ  -- the number that digits write, after those that write n
 decimal n [] = n
 decimal n (b ∷ s) = decimal (n * 10 + (b - 48)) s
 
 abbrev pub numeral : ℕ → ℤ → ℕ → Front  -- a written number must be in the range
 numeral i z more = cond (in-range z) (word (number i z) more) (bad NUMBER)
 
-abbrev pub minus : ℕ → List ℕ → Front  -- After a `-`: the arrow, a number, or a byte in no word.
+abbrev pub minus : ℕ → List ℕ → Front  -- after a `-`: the arrow, a number, or a byte in no word
 minus i [] = bad BYTE
 minus i (b ∷ s) =
     cond (eqb b 62) (word (mark kArrow i) 1)
@@ -80,7 +80,7 @@ minus i (b ∷ s) =
 abbrev pub symbol : ℕ → ℕ → Front
 symbol i b = elim (mark-of symbols (b ∷ [])) [ none ↦ bad BYTE | some m ↦ word (mark m i) 0 ]
 
-abbrev pub front : ℕ → ℕ → List ℕ → Front  -- What begins with the byte b at place i, before the bytes s.
+abbrev pub front : ℕ → ℕ → List ℕ → Front  -- what begins with the byte b at place i, before the bytes s
 front i b s =
     cond (isSep b) gap
     (cond (isLetter b) (spelled i (stretch isPlain (b ∷ s)))
@@ -101,7 +101,7 @@ wordsFrom (b ∷ s) zero i =
 abbrev pub wordsOf : List ℕ → (Result (List Word))
 wordsOf s = wordsFrom s 0 0
 
-abbrev pub most : ℕ  -- At most so many words; else 6 TOKENS, at the next.
+abbrev pub most : ℕ  -- at most so many words; else 6 TOKENS, at the next
 most = 4096
 
 -- NAME, for the report desk: the longest stretch of letters and digits from a place, if it starts with a letter.
