@@ -1,0 +1,7 @@
+pub mod Range
+pub mod Signs
+pub mod Bits
+pub mod Reading
+pub mod Fronts
+pub mod Kept
+pub mod Examples

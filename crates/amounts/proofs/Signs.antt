@@ -1,0 +1,130 @@
+-- Sums, products and quotients by sign and magnitude.
+use mathlib.Core.Path.{_≡_, refl, sym, ap, subst, _∙_}
+use mathlib.Core.Bool.{Bool, true, false, not, Bool·beq}
+use mathlib.Core.Logic.{⊎-elim}
+use Prim.Native.Nat.{ℕ, zero, suc, _+_, _-_, _*_, _/_, _≤_, _<_}
+use native.Mathlib.Nat.{zero-mul, mul-zero, zero-div, div-lt-iff-lt-mul, le-div-iff-mul-le, eq-or-lt-of-le}
+use native.Mathlib.Omega.{arith}
+use lib.Dec.{T}
+use lib.IntN.{ℤ, pos, negℤ, _+ℤ_, _*ℤ_, +ℤ-comm, negℤ-+ℤ, zero-*ℤ}
+use borrow.Author.Tests.{lt-ltb, le-ltb, lt-leb}
+use mir.Syntax.{w64}
+use mir.Val.{Fits}
+use Rattle.language.specs.Answers.{RANGE, ZERO}
+use Rattle.language.specs.Numbers.{fails, ranged, quotient, same-number}
+use Rattle.amounts.specs.Amounts.{divided}
+use Rattle.amounts.specs.Signs.{signed, unlike}
+use Rattle.amounts.proofs.Range.{far}
+
+pub differ-unlike : (a b : Bool) → not (Bool·beq a b) ≡ unlike a b
+differ-unlike true true = refl
+differ-unlike true false = refl
+differ-unlike false true = refl
+differ-unlike false false = refl
+
+pub no-sign : (s : Bool) → signed s 0 ≡ pos 0
+no-sign true = refl
+no-sign false = refl
+
+pub opposite : (t : Bool) (y : ℕ) → signed (not t) y ≡ negℤ (signed t y)
+opposite true zero = refl
+opposite true (suc y) = refl
+opposite false y = refl
+
+neg-zero : (n : ℕ) → n ≡ 0 → pos n ≡ negℤ (pos n)
+neg-zero zero e = refl
+neg-zero (suc n) e = absurd (omega arith)
+
+-- two equations at once
+pub both : {A : Type 0} (op : ℤ → ℤ → A) {a b x y : ℤ} → a ≡ x → b ≡ y → op x y ≡ op a b
+both op {a} {b} {x} {y} p q = rw (p, q) refl
+
+-- ---- sums
+minus-less : (x y : ℕ) → y ≤ x → pos x +ℤ negℤ (pos y) ≡ pos (x - y)
+minus-less x zero h = ap pos (omega arith)
+minus-less x (suc y) h = simp (le-ltb x (suc y) h)
+
+minus-more : (x y : ℕ) → x ≤ y → pos x +ℤ negℤ (pos y) ≡ negℤ (pos (y - x))
+minus-more x y h = ⊎-elim (same x y) (other x y) (eq-or-lt-of-le h)
+  where
+    same : (x y : ℕ) → x ≡ y → pos x +ℤ negℤ (pos y) ≡ negℤ (pos (y - x))
+    same x y e =
+        let d : x - y ≡ y - x = omega arith in
+        minus-less x y (omega arith) ∙ neg-zero (x - y) (omega arith) ∙ ap (λ (n : ℕ). negℤ (pos n)) d
+
+    other : (x y : ℕ) → x < y → pos x +ℤ negℤ (pos y) ≡ negℤ (pos (y - x))
+    other x zero h = absurd (omega arith)
+    other x (suc y) h =
+        let e : suc y - x ≡ suc (suc y - suc x) = omega arith in
+        simp (lt-ltb x (suc y) h) (rw e refl)
+
+pub sum-like : (s t : Bool) (x y : ℕ) → unlike s t ≡ false → signed s x +ℤ signed t y ≡ signed s (x + y)
+sum-like true true x y h = sym (negℤ-+ℤ (pos x) (pos y))
+sum-like true false x y h = absurd (subst T h tt)
+sum-like false true x y h = absurd (subst T h tt)
+sum-like false false x y h = refl
+
+pub sum-more : (s t : Bool) (x y : ℕ) → unlike s t ≡ true → y ≤ x → signed s x +ℤ signed t y ≡ signed s (x - y)
+sum-more true true x y h l = absurd (subst T (sym h) tt)
+sum-more true false x y h l = +ℤ-comm (negℤ (pos x)) (pos y) ∙ minus-more y x l
+sum-more false true x y h l = minus-less x y l
+sum-more false false x y h l = absurd (subst T (sym h) tt)
+
+pub sum-less : (s t : Bool) (x y : ℕ) → unlike s t ≡ true → x ≤ y → signed s x +ℤ signed t y ≡ signed t (y - x)
+sum-less true true x y h l = absurd (subst T (sym h) tt)
+sum-less true false x y h l = +ℤ-comm (negℤ (pos x)) (pos y) ∙ minus-less y x l
+sum-less false true x y h l = minus-more x y l
+sum-less false false x y h l = absurd (subst T (sym h) tt)
+
+-- ---- products
+pub product : (s t : Bool) (x y : ℕ) → signed s x *ℤ signed t y ≡ signed (unlike s t) (x * y)
+product true true zero y = zero-*ℤ (negℤ (pos y)) ∙ ap pos (sym (zero-mul y))
+product true true (suc x) zero = sym (neg-zero (suc x * 0) (mul-zero (suc x)))
+product true true (suc x) (suc y) = refl
+product true false zero y = neg-zero (0 * y) (zero-mul y)
+product true false (suc x) y = refl
+product false true x zero = neg-zero (x * 0) (mul-zero x)
+product false true x (suc y) = refl
+product false false x y = refl
+
+pub product-none : (s t : Bool) (x y : ℕ) → y ≡ 0 → pos 0 ≡ signed s x *ℤ signed t y
+product-none s t x y e = rw e (sym (product s t x 0 ∙ ap (signed (unlike s t)) (mul-zero x) ∙ no-sign (unlike s t)))
+
+pub product-over : (s t : Bool) (x y : ℕ) → (y ≡ 0 → ⊥) → 18446744073709551615 / y < x → fails RANGE ≡ ranged (signed s x *ℤ signed t y)
+product-over s t x y h l =
+    let p : 0 < y = omega arith in
+    let q : 18446744073709551615 < x * y = div-lt-iff-lt-mul p .0 l in
+    rw (product s t x y) (far (unlike s t) (x * y) (omega arith))
+
+pub product-fits : (x y : ℕ) → (y ≡ 0 → ⊥) → x ≤ 18446744073709551615 / y → Fits w64 (x * y)
+product-fits x y h l =
+    let p : 0 < y = omega arith in
+    let q : x * y ≤ 18446744073709551615 = le-div-iff-mul-le p .0 l in
+    record { fits = omega arith }
+
+-- ---- quotients
+quotient-signed : (s t : Bool) (x y : ℕ) → 0 < y → quotient (signed s x) (signed t y) ≡ signed (unlike s t) (x / y)
+quotient-signed s t x zero h = absurd (omega arith)
+quotient-signed true true zero (suc y) h = sym (neg-zero (0 / suc y) (zero-div (suc y)))
+quotient-signed true true (suc x) (suc y) h = refl
+quotient-signed true false zero (suc y) h = neg-zero (0 / suc y) (zero-div (suc y))
+quotient-signed true false (suc x) (suc y) h = refl
+quotient-signed false true x (suc y) h = refl
+quotient-signed false false x (suc y) h = refl
+
+zero-is : (t : Bool) → same-number (signed t 0) (pos 0) ≡ true
+zero-is true = refl
+zero-is false = refl
+
+zero-not : (t : Bool) (y : ℕ) → 0 < y → same-number (signed t y) (pos 0) ≡ false
+zero-not t zero h = absurd (omega arith)
+zero-not true (suc y) h = refl
+zero-not false (suc y) h = simp (lt-leb (suc y) 0 h)
+
+pub divided-none : (a : ℤ) (t : Bool) (y : ℕ) → y ≡ 0 → fails ZERO ≡ divided a (signed t y)
+divided-none a t y e = rw e (simp (zero-is t))
+
+pub divided-some : (s t : Bool) (x y : ℕ) → (y ≡ 0 → ⊥) → ranged (signed (unlike s t) (x / y)) ≡ divided (signed s x) (signed t y)
+divided-some s t x y h =
+    let p : 0 < y = omega arith in
+    simp (zero-not t y p, quotient-signed s t x y p)

@@ -1,0 +1,27 @@
+use mathlib.Core.Path.{ap, _∙_}
+use lib.IntN.{_+ℤ_, _-ℤ_}
+use Rattle.language.specs.Numbers.{ranged}
+use Rattle.amounts.specs.Signs.{signed}
+use Rattle.amounts.proofs.Signs.{both, opposite}
+use Rattle.amounts.proofs.Bits.{told}
+use borrow.Author.Needs.{needs}
+use Rattle.amounts.proofs.sub.Statement.{statement}
+use Rattle.amounts.proofs.sub.Tie as tie
+
+split-requires : tie.Need-split-requires
+split-requires c κs = search needs
+
+split-requires-2 : tie.Need-split-requires-2
+split-requires-2 c κs = search needs
+
+sum-of-requires : tie.Need-sum-of-requires
+sum-of-requires c κs = search needs
+
+returns : tie.Need-returns
+returns c =
+    let q = c .before .before in let p = q .before in let a = p .before .fits in let x = p .split .result in let y = q .split2 .result in
+    c .sum-of .ensures ∙ ap (λ z. ranged (signed (x .negative) (x .magnitude) +ℤ z)) (opposite (y .negative) (y .magnitude))
+    ∙ both (λ x y. ranged (x -ℤ y)) (told (a .a) (p .split .ensures)) (told (a .b) (q .split2 .ensures))
+
+pub sub-spec : {M : Type 1} → statement M
+sub-spec = tie.close (tie.spec split-requires split-requires-2 sum-of-requires returns)

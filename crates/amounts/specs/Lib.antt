@@ -1,0 +1,3 @@
+pub mod Amounts
+pub mod Signs
+pub mod Written

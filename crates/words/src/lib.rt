@@ -1,0 +1,409 @@
+// From bytes to words: document 01, "From bytes to words".
+ghost use mathlib.Core.Path.{_≡_};
+ghost use mathlib.Core.Bool.{true, false};
+ghost use mathlib.Core.List.{[], _∷_};
+ghost use Prim.Native.Nat.{_+_, _*_, _<_, min};
+ghost use lib.ListN.{length, drop, getD};
+ghost use Rattle.language.specs.Words.{isSep, isLetter, isDigit, isPlain, stretch, nameAt, symbols, keyWords, mark-of};
+ghost use Rattle.words.specs.Sorts.{passes};
+ghost use Rattle.words.specs.Marks.{numbered, pack, cap, place-in, packed-keys};
+ghost use Rattle.words.specs.Next.{foundFrom, amountFound, readFound, pastFound};
+use amounts::Amount;
+use amounts::Read;
+
+// The next word of a text. A mark is a symbol or a key word by its number, 1 to 26, and `end` is the place past the word.
+// A refusal is BYTE or NUMBER, by its number.
+pub enum Found {
+    End,
+    Mark {
+        number: u8,
+        start: usize,
+        end: usize,
+    },
+    Number {
+        value: i64,
+        start: usize,
+        end: usize,
+    },
+    Name {
+        start: usize,
+        end: usize,
+    },
+    Refused {
+        number: u8,
+        place: usize,
+    },
+}
+
+// The refusals' numbers in document 01.
+const BYTE: u8 = 4;
+
+const NUMBER: u8 = 5;
+
+// What a stretch of bytes is made of.
+enum Sort {
+    Separators,
+    LettersAndDigits,
+}
+
+fn is_separator(b: u8) -> bool
+    ensures { λ r. ⌜ r ≡ isSep b ⌝ }
+{
+    match b {
+        b' ' | b'\t' | b'\n' | b'\r' => true,
+        _ => false,
+    }
+}
+
+fn is_letter(b: u8) -> bool
+    ensures { λ r. ⌜ r ≡ isLetter b ⌝ }
+{
+    match b {
+        b'A'..=b'Z' | b'a'..=b'z' => true,
+        _ => false,
+    }
+}
+
+fn is_digit(b: u8) -> bool
+    ensures { λ r. ⌜ r ≡ isDigit b ⌝ }
+{
+    match b {
+        b'0'..=b'9' => true,
+        _ => false,
+    }
+}
+
+fn is_of(sort: Sort, b: u8) -> bool
+    ensures { λ r. ⌜ r ≡ passes sort b ⌝ }
+{
+    match sort {
+        Sort::Separators => is_separator(b),
+        Sort::LettersAndDigits => is_letter(b) || is_digit(b),
+    }
+}
+
+// The place past the longest stretch of such bytes from `at` on.
+fn stretch_end(text: &[u8], at: usize, sort: Sort) -> usize
+    ensures { λ e. ⌜ e ≡ at + length (stretch (passes sort) (drop at (now (text .entry)))) ⌝ }
+{
+    let mut e = at;
+    while e < text.len() {
+        if !is_of(sort, text[e]) {
+            return e;
+        }
+        e += 1;
+    }
+    e
+}
+
+// NAME, for the report desk: the very bytes of the name at a place, a part of the lent text and no copy.
+pub fn name_at<'a>(text: &'a [u8], at: usize) -> &'a [u8]
+    ensures { λ r. ⌜ now r ≡ nameAt (now (text .entry)) at ⌝ }
+    ensures { λ r. ⌜ (r .ptr .0 ≡ text .entry .ptr .0) × (0 < length (now r) → r .ptr .1 ≡ at + text .entry .ptr .1) ⌝ }
+{
+    if text.len() <= at {
+        return &text[..0];
+    }
+    if !is_letter(text[at]) {
+        return &text[..0];
+    }
+    let e = stretch_end(text, at, Sort::LettersAndDigits);
+    &text[at..e]
+}
+
+// A symbol's number, 0 for any other byte.
+fn symbol(b: u8) -> u8
+    ensures { λ r. ⌜ r ≡ numbered (mark-of symbols (b ∷ [])) ⌝ }
+{
+    match b {
+        b'[' => 1,
+        b']' => 2,
+        b'(' => 3,
+        b')' => 4,
+        b';' => 5,
+        b':' => 6,
+        b',' => 7,
+        b'*' => 8,
+        _ => 0,
+    }
+}
+
+// The key words in the order of their numbers, from 10 on, each as one number, base 256.
+const KEY_WORDS: [u64; 17] = [
+    0x434F4E5354, // CONST
+    0x46554E, // FUN
+    0x524543, // REC
+    0x564152, // VAR
+    0x50524F43, // PROC
+    0x4543484F, // ECHO
+    0x534554, // SET
+    0x4946, // IF
+    0x5748494C45, // WHILE
+    0x43414C4C, // CALL
+    0x6966, // if
+    0x616E64, // and
+    0x6F72, // or
+    0x626F6F6C, // bool
+    0x696E74, // int
+    0x766172, // var
+    0x616472, // adr
+];
+
+// A byte more of a word as one number, kept at 2^63.
+fn packed_more(v: u64, b: u8) -> u64
+    ensures { λ r. ⌜ r ≡ min (v * 256 + b) cap ⌝ }
+{
+    if v < 36028797018963968 {
+        return v * 256 + (b as u64);
+    }
+    9223372036854775808
+}
+
+// A word as one number, kept at 2^63.
+fn packed(word: &[u8]) -> u64
+    ensures { λ r. ⌜ r ≡ min (pack 0 (now (word .entry))) cap ⌝ }
+{
+    let mut v: u64 = 0;
+    let mut i = 0;
+    while i < word.len() {
+        v = packed_more(v, word[i]);
+        i += 1;
+    }
+    v
+}
+
+// The number of the key word that is packed so, 0 for none.
+fn key_packed(v: u64) -> u8
+    ensures { λ r. ⌜ r ≡ place-in 10 v packed-keys ⌝ }
+{
+    let mut k = 0;
+    while k < 17 {
+        if v == KEY_WORDS[k] {
+            return (k as u8) + 10;
+        }
+        k += 1;
+    }
+    0
+}
+
+// The number of a key word, 0 for a name.
+fn key_word(word: &[u8]) -> u8
+    requires { ⌜ stretch isPlain (now word) ≡ now word ⌝ }
+    ensures { λ r. ⌜ r ≡ numbered (mark-of keyWords (now (word .entry))) ⌝ }
+{
+    key_packed(packed(word))
+}
+
+// A key word or a name, from its first letter on.
+fn spelled_at(text: &[u8], start: usize) -> Found
+    requires { ⌜ start < length (now text) ⌝ }
+    requires { ⌜ isLetter (getD (now text) start 0) ≡ true ⌝ }
+    ensures { λ r. ⌜ r ≡ foundFrom (now (text .entry)) start ⌝ }
+{
+    let word = name_at(text, start);
+    let end = start + word.len();
+    let key = key_word(word);
+    if key == 0 {
+        return Found::Name { start, end };
+    }
+    Found::Mark {
+        number: key,
+        start,
+        end,
+    }
+}
+
+fn amount_found(start: usize, end: usize, amount: Amount) -> Found
+    ensures { λ r. ⌜ r ≡ amountFound start end amount ⌝ }
+{
+    match amount {
+        Amount::Is(value) => Found::Number { value, start, end },
+        Amount::Range => Found::Refused {
+            number: NUMBER,
+            place: start,
+        },
+        Amount::Zero => Found::Refused {
+            number: NUMBER,
+            place: start,
+        },
+    }
+}
+
+// A number as it was read from its first byte on, or BYTE where there is none.
+fn number_found(start: usize, read: Read) -> Found
+    ensures { λ r. ⌜ r ≡ readFound start read ⌝ }
+{
+    match read {
+        Read::Number(end, amount) => amount_found(start, end, amount),
+        Read::Not => Found::Refused {
+            number: BYTE,
+            place: start,
+        },
+    }
+}
+
+// From a `-` on: the arrow, a number, or a byte in no word.
+fn minus_at(text: &[u8], start: usize) -> Found
+    requires { ⌜ start < length (now text) ⌝ }
+    requires { ⌜ getD (now text) start 0 ≡ 45 ⌝ }
+    ensures { λ r. ⌜ r ≡ foundFrom (now (text .entry)) start ⌝ }
+{
+    let second = start + 1;
+    if text.len() <= second {
+        return Found::Refused {
+            number: BYTE,
+            place: start,
+        };
+    }
+    if text[second] == b'>' {
+        return Found::Mark {
+            number: 9,
+            start,
+            end: start + 2,
+        };
+    }
+    number_found(start, amounts::number_at(text, start))
+}
+
+// The word, or the refusal, at a place that has no separator.
+fn front_at(text: &[u8], start: usize) -> Found
+    requires { ⌜ start < length (now text) ⌝ }
+    requires { ⌜ isSep (getD (now text) start 0) ≡ false ⌝ }
+    ensures { λ r. ⌜ r ≡ foundFrom (now (text .entry)) start ⌝ }
+{
+    let b = text[start];
+    if is_letter(b) {
+        return spelled_at(text, start);
+    }
+    if is_digit(b) {
+        return number_found(start, amounts::number_at(text, start));
+    }
+    if b == b'-' {
+        return minus_at(text, start);
+    }
+    let number = symbol(b);
+    if number == 0 {
+        return Found::Refused {
+            number: BYTE,
+            place: start,
+        };
+    }
+    Found::Mark {
+        number,
+        start,
+        end: start + 1,
+    }
+}
+
+// The next word from a place on, past the separators there.
+pub fn word_at(text: &[u8], at: usize) -> Found
+    ensures { λ r. ⌜ r ≡ foundFrom (now (text .entry)) at ⌝ }
+{
+    let start = stretch_end(text, at, Sort::Separators);
+    if text.len() <= start {
+        return Found::End;
+    }
+    front_at(text, start)
+}
+
+// The bytes from a place on.
+fn rest_of(text: &[u8], at: usize) -> &[u8]
+    ensures { λ r. ⌜ now r ≡ drop at (now (text .entry)) ⌝ }
+{
+    if text.len() <= at {
+        return &text[text.len()..];
+    }
+    &text[at..]
+}
+
+// The place past a word, and the place itself where there is none.
+fn past(found: Found, at: usize) -> usize
+    ensures { λ r. ⌜ r ≡ pastFound found at ⌝ }
+{
+    match found {
+        Found::Mark {
+            number: _,
+            start: _,
+            end,
+        } => end,
+        Found::Number {
+            value: _,
+            start: _,
+            end,
+        } => end,
+        Found::Name { start: _, end } => end,
+        Found::End => at,
+        Found::Refused {
+            number: _,
+            place: _,
+        } => at,
+    }
+}
+
+// A reader holds the lent text and how far it has come.
+pub struct Reader<'a> {
+    pub text: &'a [u8],
+    pub at: usize,
+}
+
+// What was found, and the reader past it.
+pub struct Step<'a> {
+    pub found: Found,
+    pub reader: Reader<'a>,
+}
+
+impl<'a> Reader<'a> {
+    // A reader at the text's beginning.
+    pub fn new(text: &'a [u8]) -> Reader<'a>
+        ensures { λ r. ⌜ (r .text ≡ text .entry) × (r .at ≡ 0) ⌝ }
+    {
+        Reader { text, at: 0 }
+    }
+
+    // A reader at a place of the text.
+    pub fn open(text: &'a [u8], at: usize) -> Reader<'a>
+        ensures { λ r. ⌜ (r .text ≡ text .entry) × (r .at ≡ at) ⌝ }
+    {
+        Reader { text, at }
+    }
+
+    // The next word.
+    pub fn peek(self) -> Found
+        ensures { λ f. ⌜ f ≡ foundFrom (now (self .entry .text)) (self .entry .at) ⌝ }
+    {
+        word_at(self.text, self.at)
+    }
+
+    // The next word, with the reader past it.
+    pub fn next(self) -> Step<'a>
+        ensures { λ s.
+            ⌜ (s .found ≡ foundFrom (now (self .entry .text)) (self .entry .at))
+            × (s .reader .text ≡ self .entry .text)
+            × (s .reader .at ≡ pastFound (s .found) (self .entry .at)) ⌝ }
+    {
+        let at = self.at;
+        let found = word_at(self.text, at);
+        let end = past(found, at);
+        Step {
+            found,
+            reader: Reader {
+                text: self.text,
+                at: end,
+            },
+        }
+    }
+
+    // What is left of the text.
+    pub fn rest(self) -> &'a [u8]
+        ensures { λ r. ⌜ now r ≡ drop (self .entry .at) (now (self .entry .text)) ⌝ }
+    {
+        rest_of(self.text, self.at)
+    }
+}
+
+// The next word from a place on, read through a reader: for every caller that holds none.
+pub fn read_at(text: &[u8], at: usize) -> Found
+    ensures { λ r. ⌜ r ≡ foundFrom (now (text .entry)) at ⌝ }
+{
+    Reader::open(text, at).peek()
+}
