@@ -2,14 +2,12 @@
 use mathlib.Core.Path.{_≡_, refl, sym, ap, subst, _∙_}
 use mathlib.Core.List.{List, []}
 use Prim.Native.Nat.{ℕ, _≤_, _<_}
-use native.Mathlib.Omega.{arith}
-use lib.IntN.{ℤ}
 use lib.ListN.{length, drop}
 use Rattle.language.specs.Syntax.{at}
-use Rattle.language.specs.Answers.{Refusal, Result, fine, refuse, refusal-number}
+use Rattle.language.specs.Answers.{Refusal, fine, refuse, refusal-number}
 use Rattle.language.specs.Words.{Word, mark, number, named, place-word, before, wordsFrom}
 use Rattle.language.proofs.reading.Machine.{tNum, tName, tag}
-use Rattle.words.specs.Next.{Next, no-more, next, stop, nextFrom, told}
+use Rattle.words.specs.Next.{Next, no-more, next, stop, nextFrom, told, foundFrom}
 use Rattle.words.specs.declared.Found.{Found}
 use Rattle.words.specs.declared.Found.the-variants.{End, Mark, Number, Name, Refused}
 use Rattle.words.proofs.Following.{words-after, words-next, Ahead, next-ahead}
@@ -59,5 +57,5 @@ module _ (text : List ℕ) (i : ℕ) where
   by-next (stop r p) q = words-refused r p q
 
   -- the code's answer is right about them
-  pub answered : (f : Found) → f ≡ told (nextFrom text i) → Says text i f
+  pub answered : (f : Found) → f ≡ foundFrom text i → Says text i f
   answered f e = subst (Says text i) (sym e) (by-next (nextFrom text i) refl)

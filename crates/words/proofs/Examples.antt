@@ -4,91 +4,91 @@ use mathlib.Core.List.{[]}
 use lib.IntN.{pos, negsuc}
 use Rattle.language.specs.Bytes.{bytesOf}
 use Rattle.language.specs.Words.{nameAt}
-use Rattle.words.specs.Next.{nextIn, nextFrom, told}
+use Rattle.words.specs.Next.{nextIn, foundFrom}
 use Rattle.words.specs.declared.Found.the-variants.{End, Mark, Number, Name, Refused}
 
 -- the longest match: a number and a name, two numbers
-number-then-name : told (nextFrom (bytesOf "12ab") 0) ≡ Number (pos 12) 0 2
+number-then-name : foundFrom (bytesOf "12ab") 0 ≡ Number (pos 12) 0 2
 unfolding nextIn
 number-then-name = refl
 
-name-behind : told (nextFrom (bytesOf "12ab") 2) ≡ Name 2 4
+name-behind : foundFrom (bytesOf "12ab") 2 ≡ Name 2 4
 unfolding nextIn
 name-behind = refl
 
-first-of-two : told (nextFrom (bytesOf "1-2") 0) ≡ Number (pos 1) 0 1
+first-of-two : foundFrom (bytesOf "1-2") 0 ≡ Number (pos 1) 0 1
 unfolding nextIn
 first-of-two = refl
 
-second-of-two : told (nextFrom (bytesOf "1-2") 1) ≡ Number (negsuc 1) 1 3
+second-of-two : foundFrom (bytesOf "1-2") 1 ≡ Number (negsuc 1) 1 3
 unfolding nextIn
 second-of-two = refl
 
 -- `->` is one symbol, a lone `-` is BYTE
-arrow : told (nextFrom (bytesOf "int->bool") 3) ≡ Mark 9 3 5
+arrow : foundFrom (bytesOf "int->bool") 3 ≡ Mark 9 3 5
 unfolding nextIn
 arrow = refl
 
-lone-minus : told (nextFrom (bytesOf "(- 1)") 1) ≡ Refused 4 1
+lone-minus : foundFrom (bytesOf "(- 1)") 1 ≡ Refused 4 1
 unfolding nextIn
 lone-minus = refl
 
-last-minus : told (nextFrom (bytesOf " -") 0) ≡ Refused 4 1
+last-minus : foundFrom (bytesOf " -") 0 ≡ Refused 4 1
 unfolding nextIn
 last-minus = refl
 
-no-word-byte : told (nextFrom (bytesOf "[ECHO 1}") 7) ≡ Refused 4 7
+no-word-byte : foundFrom (bytesOf "[ECHO 1}") 7 ≡ Refused 4 7
 unfolding nextIn
 no-word-byte = refl
 
 -- key words against names
-key : told (nextFrom (bytesOf "[ECHO 1]") 1) ≡ Mark 15 1 5
+key : foundFrom (bytesOf "[ECHO 1]") 1 ≡ Mark 15 1 5
 unfolding nextIn
 key = refl
 
-longer-than-key : told (nextFrom (bytesOf "ECHOx") 0) ≡ Name 0 5
+longer-than-key : foundFrom (bytesOf "ECHOx") 0 ≡ Name 0 5
 unfolding nextIn
 longer-than-key = refl
 
-other-letters : told (nextFrom (bytesOf "echo") 0) ≡ Name 0 4
+other-letters : foundFrom (bytesOf "echo") 0 ≡ Name 0 4
 unfolding nextIn
 other-letters = refl
 
-two-keys : told (nextFrom (bytesOf "if IF") 2) ≡ Mark 17 3 5
+two-keys : foundFrom (bytesOf "if IF") 2 ≡ Mark 17 3 5
 unfolding nextIn
 two-keys = refl
 
 -- the edges of the range
-greatest : told (nextFrom (bytesOf "2147483647") 0) ≡ Number (pos 2147483647) 0 10
+greatest : foundFrom (bytesOf "2147483647") 0 ≡ Number (pos 2147483647) 0 10
 unfolding nextIn
 greatest = refl
 
-past-greatest : told (nextFrom (bytesOf "2147483648") 0) ≡ Refused 5 0
+past-greatest : foundFrom (bytesOf "2147483648") 0 ≡ Refused 5 0
 unfolding nextIn
 past-greatest = refl
 
-least : told (nextFrom (bytesOf "-2147483648") 0) ≡ Number (negsuc 2147483647) 0 11
+least : foundFrom (bytesOf "-2147483648") 0 ≡ Number (negsuc 2147483647) 0 11
 unfolding nextIn
 least = refl
 
-past-least : told (nextFrom (bytesOf "-2147483649") 0) ≡ Refused 5 0
+past-least : foundFrom (bytesOf "-2147483649") 0 ≡ Refused 5 0
 unfolding nextIn
 past-least = refl
 
-leading-zeros : told (nextFrom (bytesOf "000000000000000000000000000000000000000000000007") 0) ≡ Number (pos 7) 0 48
+leading-zeros : foundFrom (bytesOf "000000000000000000000000000000000000000000000007") 0 ≡ Number (pos 7) 0 48
 unfolding nextIn
 leading-zeros = refl
 
 -- separators, and the end
-separators : told (nextFrom (bytesOf "1 \t\r\n]") 1) ≡ Mark 2 5 6
+separators : foundFrom (bytesOf "1 \t\r\n]") 1 ≡ Mark 2 5 6
 unfolding nextIn
 separators = refl
 
-end : told (nextFrom (bytesOf "1 \t\r\n") 1) ≡ End
+end : foundFrom (bytesOf "1 \t\r\n") 1 ≡ End
 unfolding nextIn
 end = refl
 
-past-end : told (nextFrom (bytesOf "1") 7) ≡ End
+past-end : foundFrom (bytesOf "1") 7 ≡ End
 unfolding nextIn
 past-end = refl
 

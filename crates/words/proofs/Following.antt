@@ -1,5 +1,5 @@
 -- One word after the other gives the words of a text: what a loop over them stands on.
-use mathlib.Core.Path.{_≡_, refl, sym, ap, subst, _∙_}
+use mathlib.Core.Path.{_≡_, refl, ap, _∙_}
 use mathlib.Core.Bool.{Bool, true, false, cond}
 use mathlib.Core.List.{List, [], _∷_}
 use mathlib.Core.Option.{Option, none, some}
@@ -10,11 +10,11 @@ use lib.IntN.{ℤ, pos, negℤ}
 use lib.ListN.{length, drop, length-drop}
 use lib.Seq.{drop-drop}
 use Rattle.language.specs.Syntax.{at}
-use Rattle.language.specs.Answers.{Refusal, BYTE, NUMBER, Result, fine, refuse, refusal-number}
+use Rattle.language.specs.Answers.{BYTE, NUMBER, Result, fine, refuse}
 use Rattle.language.specs.Numbers.{in-range}
-use Rattle.language.specs.Words.{Mark, kArrow, Word, mark, number, named, place-word, isSep, isLetter, isDigit, isPlain, stretch, symbols, keyWords, mark-of}
+use Rattle.language.specs.Words.{Mark, Word, mark, number, named, place-word, isSep, isLetter, isDigit, isPlain, stretch, symbols, keyWords, mark-of}
 use Rattle.language.specs.Words.{Front, gap, word, bad, spelled, decimal, numeral, minus, symbol, front, before, wordsFrom}
-use Rattle.words.specs.Next.{Next, no-more, next, stop, begun, nextIn, nextFrom, told}
+use Rattle.words.specs.Next.{Next, no-more, next, stop, begun, nextIn, nextFrom}
 use Rattle.words.proofs.Stretches.{stretch-short}
 
 -- ---- the words of a text are its next word and those after it
@@ -46,7 +46,8 @@ words-in text (b ∷ s) i e = by (front i b s) (words-in text s (i + 1) (behind 
         ≡ words-after text (begun i f (nextIn s (i + 1)))
     by gap h = h
     by (word w more) h =
-        ap (before w) (words-skip s more (i + 1) ∙ ap (λ (l : List ℕ). wordsFrom l 0 (i + 1 + more)) (ap (drop more) (behind text i b s e) ∙ drop-drop more (i + 1) text))
+        let rest : drop more s ≡ drop (i + 1 + more) text = ap (drop more) (behind text i b s e) ∙ drop-drop more (i + 1) text in
+        ap (before w) (words-skip s more (i + 1) ∙ ap (λ (l : List ℕ). wordsFrom l 0 (i + 1 + more)) rest)
     by (bad r) h = refl
 
 pub words-next : (text : List ℕ) (i : ℕ) → wordsFrom (drop i text) 0 i ≡ words-after text (nextFrom text i)
@@ -80,7 +81,8 @@ minus-among : (i : ℕ) (s : List ℕ) → Among i (length s) (minus i s)
 minus-among i [] = tt
 minus-among i (b ∷ s) =
     either i (length (b ∷ s)) (eqb b 62) _ _ (refl, omega arith)
-    (either i (length (b ∷ s)) (isDigit b) _ _ (numeral-among i (length (b ∷ s)) (negℤ (pos (decimal 0 (stretch isDigit (b ∷ s))))) _ (stretch-short isDigit (b ∷ s))) tt)
+    (either i (length (b ∷ s)) (isDigit b) _ _
+    (numeral-among i (length (b ∷ s)) (negℤ (pos (decimal 0 (stretch isDigit (b ∷ s))))) _ (stretch-short isDigit (b ∷ s))) tt)
 
 symbol-among : (i n b : ℕ) → Among i n (symbol i b)
 symbol-among i n b = by (mark-of symbols (b ∷ []))

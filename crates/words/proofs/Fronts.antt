@@ -3,27 +3,28 @@ use mathlib.Core.Path.{_≡_, refl, sym, ap, subst, _∙_}
 use mathlib.Core.Bool.{Bool, true, false, cond, _||_}
 use mathlib.Core.List.{List, [], _∷_}
 use mathlib.Core.Option.{Option, none, some}
-use Prim.Native.Nat.{ℕ, zero, suc, _+_, _-_, _≤_, _<_}
+use Prim.Native.Nat.{ℕ, suc, _+_, _-_, _≤_, _<_}
 use native.Mathlib.Numerals.{add-one}
 use native.Mathlib.Omega.{arith}
 use lib.Dec.{T, leb, eqb}
 use lib.IntN.{ℤ, pos, negℤ}
-use lib.ListN.{length, drop, getD, drop-of-length-le, length-drop}
-use lib.Seq.{drop-cons, drop-drop, getD-drop}
+use lib.ListN.{length, drop, getD, drop-of-length-le}
+use lib.Seq.{drop-cons, drop-drop}
 use borrow.Author.Tests.{eq-eqb, ne-eqb}
-use Rattle.language.specs.Answers.{BYTE, NUMBER, refusal-number}
+use Rattle.language.specs.Answers.{BYTE, NUMBER}
 use Rattle.language.specs.Numbers.{in-range}
 use Rattle.language.specs.Syntax.{at}
-use Rattle.language.specs.Words.{Mark, kLbr, kRbr, kLpar, kRpar, kSemi, kColon, kComma, kStar, kArrow, kCONST, kFUN, kREC, kVAR, kPROC, kECHO, kSET, kIF, kWHILE, kCALL, kif, kand, kor, kbool, kint, kvar, kadr}
-use Rattle.language.specs.Words.{Word, mark, number, named, isSep, isLetter, isDigit, isPlain, stretch, symbols, keyWords, mark-of, Front, gap, word, bad, spelled, decimal, numeral, minus, symbol, front, nameAt}
+use Rattle.language.specs.Words.{Mark, kLbr, kRbr, kLpar, kRpar, kSemi, kColon, kComma, kStar, kArrow, kCONST, kFUN, kREC, kVAR, kPROC, kECHO, kSET}
+use Rattle.language.specs.Words.{kIF, kWHILE, kCALL, kif, kand, kor, kbool, kint, kvar, kadr}
+use Rattle.language.specs.Words.{mark, number, named, isSep, isLetter, isDigit, isPlain, stretch, symbols, keyWords, mark-of}
+use Rattle.language.specs.Words.{Front, gap, word, bad, spelled, decimal, numeral, minus, symbol, front, nameAt}
 use Rattle.language.proofs.reading.Machine.{code}
 use Rattle.amounts.specs.Written.{written, number-front, readNumber}
 use Rattle.amounts.specs.declared.Amount.the-variants.{Is, Range}
 use Rattle.amounts.specs.declared.Read.the-variants as Read
 use Rattle.amounts.proofs.Fronts.{at-front, digit-no-gap, digit-no-letter, number-digit, number-minus, minus-none}
 use Rattle.words.specs.Marks.{numbered}
-use Rattle.words.specs.Next.{Next, no-more, next, stop, begun, nextIn, nextFrom, told, amountFound, readFound}
-use Rattle.words.specs.declared.Found.{Found}
+use Rattle.words.specs.Next.{Next, begun, nextIn, nextFrom, told, foundFrom, amountFound, readFound}
 use Rattle.words.specs.declared.Found.the-variants as F
 use Rattle.words.proofs.Stretches.{name-some}
 
@@ -77,7 +78,7 @@ module _ (s : List ℕ) (i : ℕ) (h : i < length s) where
   unfolding nextIn
   next-here = ap (λ (l : List ℕ). nextIn l i) split-here
 
-  told-here : (f : Front) → front i first behind ≡ f → told (nextFrom s i) ≡ told (begun i f after)
+  told-here : (f : Front) → front i first behind ≡ f → foundFrom s i ≡ told (begun i f after)
   told-here f e = ap told (next-here ∙ ap (λ (g : Front). begun i g after) e)
 
 -- ---- letters and digits
@@ -128,7 +129,7 @@ module _ (s : List ℕ) (i : ℕ) (h : i < length s) (t : isLetter (getD s i 0) 
   name-long : 0 < length (nameAt s i)
   name-long = subst (λ (w : List ℕ). 0 < length w) (sym name-here) (long (isLetter (getD s i 0)) (isDigit (getD s i 0)) (getD s i 0) _ t)
 
-  told-spelled : told (nextFrom s i) ≡ told (begun i (spelled i (nameAt s i)) (after s i h))
+  told-spelled : foundFrom s i ≡ told (begun i (spelled i (nameAt s i)) (after s i h))
   told-spelled = told-here s i h (spelled i (nameAt s i)) (front-letter i (getD s i 0) (behind s i h) t ∙ ap (spelled i) (sym name-here))
 
   -- a word that was read there, with its end and its number
@@ -139,23 +140,11 @@ module _ (s : List ℕ) (i : ℕ) (h : i < length s) (t : isLetter (getD s i 0) 
     end-is : e ≡ i + 1 + (length (nameAt s i) - 1)
     end-is = omega (arith, name-long, ap length is)
 
-    pub found-name : k ≡ 0 → F.Name i e ≡ told (nextFrom s i)
+    pub found-name : k ≡ 0 → F.Name i e ≡ foundFrom s i
     found-name z = spelled-name i (after s i h) (nameAt s i) k e key-is end-is z ∙ sym told-spelled
 
-    pub found-key : (k ≡ 0 → ⊥) → F.Mark k i e ≡ told (nextFrom s i)
+    pub found-key : (k ≡ 0 → ⊥) → F.Mark k i e ≡ foundFrom s i
     found-key z = spelled-key i (after s i h) (nameAt s i) k e key-is end-is z ∙ sym told-spelled
-
--- a stretch is a stretch throughout
-pub stretch-whole : (p : ℕ → Bool) (s : List ℕ) → stretch p (stretch p s) ≡ stretch p s
-stretch-whole p [] = refl
-stretch-whole p (b ∷ s) = by (p b) refl (stretch-whole p s)
-  where
-    by : (t : Bool) → p b ≡ t → stretch p (stretch p s) ≡ stretch p s → stretch p (cond t (b ∷ stretch p s) []) ≡ cond t (b ∷ stretch p s) []
-    by true e q = rw (e, q) refl
-    by false e q = refl
-
-pub name-whole : (s : List ℕ) (i : ℕ) → i < length s → isLetter (getD s i 0) ≡ true → (w : List ℕ) → w ≡ nameAt s i → stretch isPlain w ≡ w
-name-whole s i h t w e = let q = e ∙ name-some s i h t in ap (stretch isPlain) q ∙ stretch-whole isPlain (drop i s) ∙ sym q
 
 -- ---- numbers
 numeral-told : (i more : ℕ) (z : ℤ) (n : Next) → readFound i (Read.Number (i + 1 + more) (written z)) ≡ told (begun i (numeral i z more) n)
@@ -166,7 +155,7 @@ numeral-told i more z n = by (in-range z)
     by false = refl
 
 module _ (s : List ℕ) (i : ℕ) (h : i < length s) where
-  pub found-digit : isDigit (getD s i 0) ≡ true → readFound i (readNumber s i) ≡ told (nextFrom s i)
+  pub found-digit : isDigit (getD s i 0) ≡ true → readFound i (readNumber s i) ≡ foundFrom s i
   found-digit d =
       let b = getD s i 0 in
       let z = pos (decimal 0 (stretch isDigit (b ∷ behind s i h))) in
@@ -176,23 +165,23 @@ module _ (s : List ℕ) (i : ℕ) (h : i < length s) where
 
   -- ---- from a `-` on
   module _ (m : getD s i 0 ≡ 45) where
-    told-minus : told (nextFrom s i) ≡ told (begun i (minus i (behind s i h)) (after s i h))
+    told-minus : foundFrom s i ≡ told (begun i (minus i (behind s i h)) (after s i h))
     told-minus = told-here s i h (minus i (behind s i h)) (rw m refl)
 
-    pub found-lone : length s ≤ i + 1 → F.Refused 4 i ≡ told (nextFrom s i)
+    pub found-lone : length s ≤ i + 1 → F.Refused 4 i ≡ foundFrom s i
     found-lone l = sym (told-minus ∙ ap (λ (r : List ℕ). told (begun i (minus i r) (after s i h))) (drop-of-length-le s {i = i + 1} l))
 
     second : i + 1 < length s → behind s i h ≡ getD s (i + 1) 0 ∷ drop (i + 1 + 1) s
     second l = rw (add-one (i + 1), drop-cons s (i + 1) 0 l) refl
 
     module _ (l : i + 1 < length s) where
-      told-second : (f : Front) → minus i (getD s (i + 1) 0 ∷ drop (i + 1 + 1) s) ≡ f → told (nextFrom s i) ≡ told (begun i f (after s i h))
+      told-second : (f : Front) → minus i (getD s (i + 1) 0 ∷ drop (i + 1 + 1) s) ≡ f → foundFrom s i ≡ told (begun i f (after s i h))
       told-second f e =
           told-minus
           ∙ ap (λ (r : List ℕ). told (begun i (minus i r) (after s i h))) (second l)
           ∙ ap (λ (g : Front). told (begun i g (after s i h))) e
 
-      pub found-arrow : getD s (i + 1) 0 ≡ 62 → F.Mark 9 i (i + 2) ≡ told (nextFrom s i)
+      pub found-arrow : getD s (i + 1) 0 ≡ 62 → F.Mark 9 i (i + 2) ≡ foundFrom s i
       found-arrow a =
           let n : i + 2 ≡ i + 1 + 1 = omega arith in
           ap (F.Mark 9 i) n ∙ sym (told-second (word (mark kArrow i) 1) (yes (eqb (getD s (i + 1) 0) 62) _ _ (eq-eqb (getD s (i + 1) 0) 62 a)))
@@ -200,31 +189,36 @@ module _ (s : List ℕ) (i : ℕ) (h : i < length s) where
       read-minus : readNumber s i ≡ number-front i (45 ∷ getD s (i + 1) 0 ∷ drop (i + 1 + 1) s)
       read-minus = at-front s i (split-here s i h ∙ ap (λ (b : ℕ). b ∷ behind s i h) m ∙ ap (λ (r : List ℕ). 45 ∷ r) (second l))
 
-      pub found-minus : (getD s (i + 1) 0 ≡ 62 → ⊥) → readFound i (readNumber s i) ≡ told (nextFrom s i)
+      pub found-minus : (getD s (i + 1) 0 ≡ 62 → ⊥) → readFound i (readNumber s i) ≡ foundFrom s i
       found-minus a = ap (readFound i) read-minus ∙ by (isDigit (getD s (i + 1) 0)) refl
         where
           no-arrow : eqb (getD s (i + 1) 0) 62 ≡ false
           no-arrow = ne-eqb (getD s (i + 1) 0) 62 a
 
-          by : (t : Bool) → isDigit (getD s (i + 1) 0) ≡ t → readFound i (number-front i (45 ∷ getD s (i + 1) 0 ∷ drop (i + 1 + 1) s)) ≡ told (nextFrom s i)
+          by : (t : Bool) → isDigit (getD s (i + 1) 0) ≡ t → readFound i (number-front i (45 ∷ getD s (i + 1) 0 ∷ drop (i + 1 + 1) s)) ≡ foundFrom s i
           by true d =
               let ds = stretch isDigit (getD s (i + 1) 0 ∷ drop (i + 1 + 1) s) in
               ap (readFound i) (number-minus i (getD s (i + 1) 0) (drop (i + 1 + 1) s) d)
               ∙ numeral-told i (length ds) (negℤ (pos (decimal 0 ds))) (after s i h)
-              ∙ sym (told-second (numeral i (negℤ (pos (decimal 0 ds))) (length ds)) (no (eqb (getD s (i + 1) 0) 62) _ _ no-arrow ∙ yes (isDigit (getD s (i + 1) 0)) _ _ d))
+              ∙ sym
+              (told-second (numeral i (negℤ (pos (decimal 0 ds))) (length ds))
+              (no (eqb (getD s (i + 1) 0) 62) _ _ no-arrow ∙ yes (isDigit (getD s (i + 1) 0)) _ _ d))
           by false d =
               ap (readFound i) (minus-none i (getD s (i + 1) 0) (drop (i + 1 + 1) s) d)
               ∙ sym (told-second (bad BYTE) (no (eqb (getD s (i + 1) 0) 62) _ _ no-arrow ∙ no (isDigit (getD s (i + 1) 0)) _ _ d))
 
   -- ---- symbols
   module _ (g : isSep (getD s i 0) ≡ false) (t : isLetter (getD s i 0) ≡ false) (d : isDigit (getD s i 0) ≡ false) (m : getD s i 0 ≡ 45 → ⊥) where
-    told-symbol : told (nextFrom s i) ≡ told (begun i (symbol i (getD s i 0)) (after s i h))
+    told-symbol : foundFrom s i ≡ told (begun i (symbol i (getD s i 0)) (after s i h))
     told-symbol =
         told-here s i h (symbol i (getD s i 0))
-        (no (isSep (getD s i 0)) _ _ g ∙ no (isLetter (getD s i 0)) _ _ t ∙ no (isDigit (getD s i 0)) _ _ d ∙ no (eqb (getD s i 0) 45) _ _ (ne-eqb (getD s i 0) 45 m))
+        (no (isSep (getD s i 0)) _ _ g
+        ∙ no (isLetter (getD s i 0)) _ _ t
+        ∙ no (isDigit (getD s i 0)) _ _ d
+        ∙ no (eqb (getD s i 0) 45) _ _ (ne-eqb (getD s i 0) 45 m))
 
     module _ (k : ℕ) (is : k ≡ numbered (mark-of symbols (getD s i 0 ∷ []))) where
-      pub found-none : k ≡ 0 → F.Refused 4 i ≡ told (nextFrom s i)
+      pub found-none : k ≡ 0 → F.Refused 4 i ≡ foundFrom s i
       found-none z = by (mark-of symbols (getD s i 0 ∷ [])) is ∙ sym told-symbol
         where
           by : (o : Option Mark) → k ≡ numbered o
@@ -232,7 +226,7 @@ module _ (s : List ℕ) (i : ℕ) (h : i < length s) where
           by none q = refl
           by (some n) q = absurd (zero-no-code n k q z)
 
-      pub found-symbol : (k ≡ 0 → ⊥) → F.Mark k i (i + 1) ≡ told (nextFrom s i)
+      pub found-symbol : (k ≡ 0 → ⊥) → F.Mark k i (i + 1) ≡ foundFrom s i
       found-symbol z = by (mark-of symbols (getD s i 0 ∷ [])) is ∙ sym told-symbol
         where
           by : (o : Option Mark) → k ≡ numbered o
@@ -264,22 +258,6 @@ module _ (s : List ℕ) (i e : ℕ) (is : e ≡ i + length (stretch isSep (drop 
       ∙ ap (λ (l : List ℕ). nextIn l (i + length (stretch isSep (drop i s)))) (drop-drop (length (stretch isSep (drop i s))) i s)
       ∙ ap (nextFrom s) (sym is))
 
-  pub found-end : length s ≤ e → F.End ≡ told (nextFrom s i)
+  pub found-end : length s ≤ e → F.End ≡ foundFrom s i
   unfolding nextIn
   found-end l = sym (ap told (sym past-gaps ∙ ap (λ (r : List ℕ). nextIn r e) (drop-of-length-le s {i = e} l)))
-
--- behind a stretch its test fails
-stretch-ends : (p : ℕ → Bool) (l : List ℕ) → length (stretch p l) < length l → p (getD l (length (stretch p l)) 0) ≡ false
-stretch-ends p [] h = absurd (omega arith)
-stretch-ends p (b ∷ s) h = by (p b) refl h (stretch-ends p s)
-  where
-    by : (t : Bool) → p b ≡ t → length (cond t (b ∷ stretch p s) []) < suc (length s)
-        → (length (stretch p s) < length s → p (getD s (length (stretch p s)) 0) ≡ false)
-        → p (getD (b ∷ s) (length (cond t (b ∷ stretch p s) [])) 0) ≡ false
-    by true e k q = q (omega arith)
-    by false e k q = e
-
-pub no-gap : (s : List ℕ) (i e : ℕ) → e ≡ i + length (stretch isSep (drop i s)) → e < length s → isSep (getD s e 0) ≡ false
-no-gap s i e is h =
-    let l : length (stretch isSep (drop i s)) < length (drop i s) = omega (arith, length-drop i s) in
-    ap isSep (ap (λ (n : ℕ). getD s n 0) is ∙ sym (getD-drop i s (length (stretch isSep (drop i s))) 0)) ∙ stretch-ends isSep (drop i s) l

@@ -6,3 +6,4 @@ pub mod Following
 pub mod Fronts
 pub mod Answers
 pub mod Examples
+pub mod Held

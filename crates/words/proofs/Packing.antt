@@ -2,14 +2,11 @@
 use mathlib.Core.Path.{_≡_, refl, sym, ap, subst, _∙_}
 use mathlib.Core.Bool.{Bool, true, false, _&&_, _||_, cond}
 use mathlib.Core.List.{List, [], _∷_, map, reverse, reverseAux, reverse-reverse}
-use mathlib.Core.Option.{Option, none, some}
+use mathlib.Core.Option.{Option, some}
 use Prim.Native.Nat.{ℕ, suc, _+_, _*_, _≤_, _<_, min}
-use native.Mathlib.Numerals.{add-one}
 use native.Mathlib.Omega.{arith}
 use lib.Dec.{T, leb, eqb, leb→le, eqb→eq}
-use lib.ListN.{length, drop, getD, drop-of-length-le}
-use lib.Seq.{drop-cons}
-use borrow.Author.Tests.{leb-true, leb-false, eqb-true, eq-eqb, ne-eqb}
+use borrow.Author.Tests.{leb-true, leb-false, eq-eqb, ne-eqb}
 use Rattle.language.specs.Bytes.{bytesOf, same-bytes}
 use Rattle.language.specs.Words.{Mark, Spelling, means, isLetter, isDigit, isPlain, stretch, keyWords, mark-of}
 use Rattle.language.proofs.reading.Machine.{code}
@@ -104,7 +101,8 @@ found : (t : Bool) (m : Mark) (k n : ℕ) (o : Option Mark) → code m ≡ k →
 found true m k n o e f = sym e
 found false m k n o e f = f
 
-in-table : (w : List ℕ) → Bytes w → (ms : List Spelling) (k : ℕ) → T (tabled k ms) → place-in k (min (pack 0 w) cap) (map packed-spelling ms) ≡ numbered (mark-of ms w)
+in-table : (w : List ℕ) → Bytes w → (ms : List Spelling) (k : ℕ) → T (tabled k ms)
+    → place-in k (min (pack 0 w) cap) (map packed-spelling ms) ≡ numbered (mark-of ms w)
 in-table w p [] k t = refl
 in-table w p (means s m ∷ ms) k t =
     let h = both (good (bytesOf s) && (leb (pack 0 (bytesOf s) + 1) cap && eqb (code m) k)) (tabled (suc k) ms) t in

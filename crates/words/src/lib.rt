@@ -296,7 +296,7 @@ fn front_at(text: &[u8], start: usize) -> Found
 }
 
 // The next word from a place on, past the separators there.
-pub fn word_at(text: &[u8], at: usize) -> Found
+fn word_at(text: &[u8], at: usize) -> Found
     ensures { λ r. ⌜ r ≡ foundFrom (now (text .entry)) at ⌝ }
 {
     let start = stretch_end(text, at, Sort::Separators);
@@ -403,7 +403,7 @@ impl<'a> Reader<'a> {
 
 // The next word from a place on, read through a reader: for every caller that holds none.
 pub fn read_at(text: &[u8], at: usize) -> Found
-    ensures { λ r. ⌜ r ≡ foundFrom (now (text .entry)) at ⌝ }
+    ensures { λ f. ⌜ f ≡ foundFrom (now (text .entry)) at ⌝ }
 {
     Reader::open(text, at).peek()
 }

@@ -1,4 +1,3 @@
-use native.Mathlib.Omega.{arith}
 use Rattle.words.proofs.Classes.{digit, below-digits, above-digits}
 use Rattle.words.proofs.is_digit.Statement.{statement}
 use Rattle.words.proofs.is_digit.Tie as tie

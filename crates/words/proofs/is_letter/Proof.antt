@@ -1,4 +1,3 @@
-use native.Mathlib.Omega.{arith}
 use Rattle.words.proofs.Classes.{capital, small, below-capitals, between, above-letters}
 use Rattle.words.proofs.is_letter.Statement.{statement}
 use Rattle.words.proofs.is_letter.Tie as tie

@@ -1,7 +1,6 @@
 use Prim.Native.Nat.{_≤_, _+_, _-_}
 use mathlib.Core.Path.{_≡_, refl, sym, _∙_}
 use native.Mathlib.Omega.{arith}
-use borrow.Author.Needs.{needs}
 use lib.ListN.{drop}
 use Rattle.words.specs.Marks.{place-in, packed-keys}
 use Rattle.words.proofs.Loops.{place-here, place-on, place-none}

@@ -1,5 +1,4 @@
 use mathlib.Core.Path.{ap, _∙_}
-use native.Mathlib.Omega.{arith}
 use borrow.Author.Needs.{needs}
 use Rattle.words.specs.Next.{readFound}
 use Rattle.words.proofs.Fronts.{found-lone, found-arrow, found-minus}

@@ -46,11 +46,10 @@ part-result-end c =
 returns-3 : tie.Need-returns-3
 returns-3 c =
     let k = c .before .before .before in let a = k .before .before .before .before .args in
-    let e : (c .before .stretch-end .result) - (a .at) ≡ length (stretch isPlain (drop (a .at) (a .text .now))) = omega (arith, c .before .stretch-end .ensures) in (
-      rw e (sym (stretch-take isPlain (drop (a .at) (a .text .now))))
-          ∙ sym (name-some _ _ (k .before .before .if1 .left) (sym (k .is-letter .ensures) ∙ not-false _ (c .before .before .if2 .left))),
-      (refl, λ h. refl),
-    )
+    let n = length (stretch isPlain (drop (a .at) (a .text .now))) in
+    let e : (c .before .stretch-end .result) - (a .at) ≡ n = omega (arith, c .before .stretch-end .ensures) in
+    let letter = sym (k .is-letter .ensures) ∙ not-false _ (c .before .before .if2 .left) in
+    (rw e (sym (stretch-take isPlain (drop (a .at) (a .text .now)))) ∙ sym (name-some _ _ (k .before .before .if1 .left) letter), (refl, λ h. refl))
 
 pub name-at-spec : {M : Type 1} → statement M
 name-at-spec =

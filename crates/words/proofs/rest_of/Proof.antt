@@ -28,7 +28,9 @@ part-result-end-2 : tie.Need-part-result-end-2
 part-result-end-2 c = search needs
 
 returns-2 : tie.Need-returns-2
-returns-2 c = let a = c .before .before .args in take-all (length (a .text .now) - a .at) (drop (a .at) (a .text .now)) (omega (arith, length-drop (a .at) (a .text .now)))
+returns-2 c =
+    let a = c .before .before .args in
+    take-all (length (a .text .now) - a .at) (drop (a .at) (a .text .now)) (omega (arith, length-drop (a .at) (a .text .now)))
 
 pub rest-of-spec : {M : Type 1} → statement M
 rest-of-spec =

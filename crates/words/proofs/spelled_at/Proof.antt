@@ -1,6 +1,7 @@
 use borrow.Author.Needs.{needs}
 use mathlib.Core.Path.{refl}
-use Rattle.words.proofs.Fronts.{found-name, found-key, name-whole}
+use Rattle.words.proofs.Fronts.{found-name, found-key}
+use Rattle.words.proofs.Stretches.{name-whole}
 use Rattle.words.proofs.spelled_at.Statement.{statement}
 use Rattle.words.proofs.spelled_at.Tie as tie
 

@@ -1,12 +1,12 @@
-use Prim.Native.Nat.{_≤_, _-_, _+_}
-use mathlib.Core.Path.{_≡_, sym, _∙_}
+use Prim.Native.Nat.{_-_, _+_}
+use mathlib.Core.Path.{_≡_, sym, ap, _∙_}
 use native.Mathlib.Omega.{arith}
 use borrow.Author.Needs.{needs}
 use borrow.Author.Tests.{not-true, not-false}
 use lib.ListN.{length, drop}
 use Rattle.language.specs.Words.{stretch}
 use Rattle.words.specs.Sorts.{passes}
-use Rattle.words.proofs.Stretches.{stretch-more, stretch-stop, stretch-past}
+use Rattle.amounts.proofs.Reading.{stretch-goes, stretch-stops, stretch-past}
 use Rattle.words.proofs.stretch_end.Statement.{statement}
 use Rattle.words.proofs.stretch_end.Tie as tie
 
@@ -29,7 +29,8 @@ is-of-requires c κs = search needs
 returns : tie.Need-returns Inv-loop μ-loop
 returns c =
     let k = c .before .before .before .before in let a = k .before .before .args in
-    omega (arith, stretch-stop (passes (a .sort)) (a .text .now) (k .loop .e) (search needs) (sym (c .before .is-of .ensures) ∙ not-true _ (c .if1 .taken)))
+    let t = sym (c .before .is-of .ensures) ∙ not-true _ (c .if1 .taken) in
+    omega (arith, ap length (stretch-stops (passes (a .sort)) (a .text .now) (k .loop .e) (search needs) t))
 
 add-e : tie.Need-add-e Inv-loop μ-loop
 add-e c = search needs
@@ -40,12 +41,13 @@ loop-less c = search needs
 loop-again : tie.Need-loop-again Inv-loop μ-loop
 loop-again c =
     let k = c .before .before .before .before in let a = k .before .before .args in
-    omega (arith, stretch-more (passes (a .sort)) (a .text .now) (k .loop .e) (search needs) (sym (c .before .is-of .ensures) ∙ not-false _ (c .if1 .left)))
+    let t = sym (c .before .is-of .ensures) ∙ not-false _ (c .if1 .left) in
+    omega (arith, ap length (stretch-goes (passes (a .sort)) (a .text .now) (k .loop .e) (search needs) t))
 
 returns-2 : tie.Need-returns-2 Inv-loop μ-loop
 returns-2 c =
     let k = c .before in let a = k .before .before .args in
-    omega (arith, stretch-past (passes (a .sort)) (a .text .now) (k .loop .e) (search needs))
+    omega (arith, ap length (stretch-past (passes (a .sort)) (a .text .now) (k .loop .e) (search needs)))
 
 pub stretch-end-spec : {M : Type 1} → statement M
 stretch-end-spec =

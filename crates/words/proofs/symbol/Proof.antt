@@ -28,7 +28,9 @@ returns-8 : tie.Need-returns-8
 returns-8 c = rw (c .match .keys8) refl
 
 returns-9 : tie.Need-returns-9
-returns-9 c = let r = c .match .rest in no-symbol _ (r .0 .0 .0 .0 .0 .0 .0 .1) (r .0 .0 .0 .0 .0 .0 .1) (r .0 .0 .0 .0 .0 .1) (r .0 .0 .0 .0 .1) (r .0 .0 .0 .1) (r .0 .0 .1) (r .0 .1) (r .1)
+returns-9 c =
+    let r = c .match .rest in let s = r .0 .0 .0 .0 in
+    no-symbol _ (s .0 .0 .0 .1) (s .0 .0 .1) (s .0 .1) (s .1) (r .0 .0 .0 .1) (r .0 .0 .1) (r .0 .1) (r .1)
 
 pub symbol-spec : {M : Type 1} → statement M
 symbol-spec = tie.close (tie.spec returns returns-2 returns-3 returns-4 returns-5 returns-6 returns-7 returns-8 returns-9)

@@ -1,0 +1,14 @@
+pub mod Fields
+pub mod Proper
+pub mod Written
+pub mod Standing
+pub mod Encoded
+pub mod Links
+pub mod Trees
+pub mod Laws
+pub mod Program
+pub mod Rows
+pub mod Weight
+pub mod Numbered
+pub mod Bytes
+pub mod Nine

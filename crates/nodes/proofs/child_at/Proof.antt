@@ -1,0 +1,15 @@
+-- `nodes::child_at` meets its contract: the first child is split off the word by division.
+use borrow.Author.Needs.{needs}
+use Rattle.nodes.specs.Nodes.{nodeAt}
+use Rattle.nodes.proofs.child_at.Statement.{statement}
+use Rattle.nodes.proofs.child_at.Tie as tie
+
+word-at-requires : tie.Need-word-at-requires
+word-at-requires c κs = search needs
+
+returns : tie.Need-returns
+unfolding nodeAt
+returns c = rw (c .word-at .ensures)
+
+pub child-at-spec : {M : Type 1} → statement M
+child-at-spec = tie.close (tie.spec word-at-requires returns)

@@ -1,0 +1,128 @@
+// The tree table read node by node, and the names that its places point to: any words and any text, of any length, are read without a refusal.
+ghost use mathlib.Core.Path.{_≡_};
+ghost use lib.ListN.{getD};
+ghost use Rattle.language.specs.Bytes.{same-bytes};
+ghost use Rattle.language.specs.Words.{nameAt};
+ghost use Rattle.language.specs.Names.{meaning};
+ghost use Rattle.nodes.specs.Nodes.{nodeAt};
+ghost use Rattle.nodes.specs.Names.{meaningNo};
+
+// A node's kind, its place in the text, and the numbers of its first child and next sibling (0: none).
+pub struct Node {
+    pub kind: u64,
+    pub place: u64,
+    pub child: u64,
+    pub next: u64,
+}
+
+// The word of the node `i`, and 0 past the table's end.
+fn word_at(tree: &[u64], i: u64) -> u64
+    ensures { λ r. ⌜ r ≡ getD (now (tree .entry)) i 0 ⌝ }
+{
+    let at = i as usize;
+    if at < tree.len() { tree[at] } else { 0 }
+}
+
+pub fn node_at(tree: &[u64], i: u64) -> Node
+    ensures { λ r. ⌜ r ≡ nodeAt (now (tree .entry)) i ⌝ }
+{
+    let word = word_at(tree, i);
+    Node {
+        kind: word / 281474976710656,
+        place: word / 4294967296 % 65536,
+        child: word / 65536 % 65536,
+        next: word % 65536,
+    }
+}
+
+pub fn kind_at(tree: &[u64], i: u64) -> u64
+    ensures { λ r. ⌜ r ≡ nodeAt (now (tree .entry)) i .kind ⌝ }
+{
+    word_at(tree, i) / 281474976710656
+}
+
+pub fn place_at(tree: &[u64], i: u64) -> u64
+    ensures { λ r. ⌜ r ≡ nodeAt (now (tree .entry)) i .place ⌝ }
+{
+    word_at(tree, i) / 4294967296 % 65536
+}
+
+pub fn child_at(tree: &[u64], i: u64) -> u64
+    ensures { λ r. ⌜ r ≡ nodeAt (now (tree .entry)) i .child ⌝ }
+{
+    word_at(tree, i) / 65536 % 65536
+}
+
+pub fn next_at(tree: &[u64], i: u64) -> u64
+    ensures { λ r. ⌜ r ≡ nodeAt (now (tree .entry)) i .next ⌝ }
+{
+    word_at(tree, i) % 65536
+}
+
+// Are these the same bytes?
+fn same_bytes(a: &[u8], b: &[u8]) -> bool
+    ensures { λ r. ⌜ r ≡ same-bytes (now (a .entry)) (now (b .entry)) ⌝ }
+{
+    if a.len() != b.len() {
+        return false;
+    }
+    let mut i = 0;
+    while i < a.len() {
+        if a[i] != b[i] {
+            return false;
+        }
+        i += 1;
+    }
+    true
+}
+
+// Have the names at the places `p` and `q` the same bytes?
+pub fn same_name(text: &[u8], p: u64, q: u64) -> bool
+    ensures { λ r. ⌜ r ≡ same-bytes (nameAt (now (text .entry)) p) (nameAt (now (text .entry)) q) ⌝ }
+{
+    same_bytes(
+        words::name_at(text, p as usize),
+        words::name_at(text, q as usize),
+    )
+}
+
+// Which of the nine names these bytes are: 1 to 9, and 0 for any other name.
+fn meaning_of(name: &[u8]) -> u64
+    ensures { λ r. ⌜ r ≡ meaningNo (meaning (now (name .entry))) ⌝ }
+{
+    if same_bytes(b"true", name) {
+        return 1;
+    }
+    if same_bytes(b"false", name) {
+        return 2;
+    }
+    if same_bytes(b"not", name) {
+        return 3;
+    }
+    if same_bytes(b"eq", name) {
+        return 4;
+    }
+    if same_bytes(b"lt", name) {
+        return 5;
+    }
+    if same_bytes(b"add", name) {
+        return 6;
+    }
+    if same_bytes(b"sub", name) {
+        return 7;
+    }
+    if same_bytes(b"mul", name) {
+        return 8;
+    }
+    if same_bytes(b"div", name) {
+        return 9;
+    }
+    0
+}
+
+// Which of the nine names stands at the place `p`: 1 to 9, and 0 for any other name.
+pub fn meaning_at(text: &[u8], p: u64) -> u64
+    ensures { λ r. ⌜ r ≡ meaningNo (meaning (nameAt (now (text .entry)) p)) ⌝ }
+{
+    meaning_of(words::name_at(text, p as usize))
+}
