@@ -48,6 +48,7 @@ fn minus_one_more(n: u64) -> i64
     -1 - (n as i64)
 }
 
+// The number itself, where it is not negative.
 fn not_below_zero(a: i64) -> u64
     requires { ⌜ ltZ a (pos 0) ≡ false ⌝ }
     ensures { λ r. ⌜ a ≡ pos r ⌝ }
@@ -145,6 +146,7 @@ fn quotient_of(s: bool, x: u64, t: bool, y: u64) -> Amount
     join(differ(s, t), x / y)
 }
 
+// The operators: Range where the true result lies outside the range, Zero for a division by 0.
 pub fn add(a: i64, b: i64) -> Amount
     ensures { λ r. ⌜ computed r ≡ ranged (a +ℤ b) ⌝ }
 {
@@ -265,7 +267,7 @@ fn written_at(text: &[u8], from: usize, negative: bool) -> Read
     Read::Number(end, join(negative, digits.value))
 }
 
-// The number that a text writes at a place, of any length.
+// The number that a text of any length writes at a place, -?[0-9]+.
 pub fn number_at(text: &[u8], at: usize) -> Read
     ensures { λ r. ⌜ r ≡ readNumber (now (text .entry)) at ⌝ }
 {

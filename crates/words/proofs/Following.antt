@@ -7,13 +7,13 @@ use Prim.Native.Nat.{ℕ, zero, suc, _+_, _-_, _≤_, _<_}
 use native.Mathlib.Omega.{arith}
 use lib.Dec.{eqb}
 use lib.IntN.{ℤ, pos, negℤ}
-use lib.ListN.{length, drop, length-drop}
+use lib.ListN.{length, drop, length-drop, drop-of-length-le}
 use lib.Seq.{drop-drop}
 use Rattle.language.specs.Syntax.{at}
 use Rattle.language.specs.Answers.{BYTE, NUMBER, Result, fine, refuse}
 use Rattle.language.specs.Numbers.{in-range}
 use Rattle.language.specs.Words.{Mark, Word, mark, number, named, place-word, isSep, isLetter, isDigit, isPlain, stretch, symbols, keyWords, mark-of}
-use Rattle.language.specs.Words.{Front, gap, word, bad, spelled, decimal, numeral, minus, symbol, front, before, wordsFrom}
+use Rattle.language.specs.Words.{Front, gap, word, bad, spelled, decimal, numeral, minus, symbol, front, before, wordsFrom, wordsOf}
 use Rattle.words.specs.Next.{Next, no-more, next, stop, begun, nextIn, nextFrom}
 use Rattle.words.proofs.Stretches.{stretch-short}
 
@@ -120,3 +120,24 @@ ahead-in text (b ∷ s) i e =
 
 pub next-ahead : (text : List ℕ) (i : ℕ) → Ahead i (length text) (nextFrom text i)
 next-ahead text i = ahead-in text (drop i text) i refl
+
+-- ---- all of them, one after the other: at most n words from place i on
+unfoldable pub words-by : (n : ℕ) → List ℕ → (i : ℕ) → (Result (List Word))
+words-by zero text i = fine []
+words-by (suc n) text i = elim (nextFrom text i) [ no-more ↦ fine [] | next w e ↦ before w (words-by n text e) | stop r p ↦ refuse r p ]
+
+by-steps : (n : ℕ) (text : List ℕ) (i : ℕ) → length text < i + n → wordsFrom (drop i text) 0 i ≡ words-by n text i
+unfolding words-by wordsFrom
+by-steps zero text i h = let l : length text ≤ i = omega arith in ap (λ (r : List ℕ). wordsFrom r 0 i) (drop-of-length-le text {i = i} l)
+by-steps (suc n) text i h = words-next text i ∙ by (nextFrom text i) (next-ahead text i) (λ e l. by-steps n text e l)
+  where
+    by : (a : Next) → Ahead i (length text) a
+        → ((e : ℕ) → length text < e + n → wordsFrom (drop e text) 0 e ≡ words-by n text e)
+        → words-after text a ≡ elim a as (λ _. (Result (List Word))) [ no-more ↦ fine [] | next w e ↦ before w (words-by n text e) | stop r p ↦ refuse r p ]
+    by no-more p more = refl
+    by (next w e) p more = ap (before w) (more e (omega (arith, p .0, p .1)))
+    by (stop r x) p more = refl
+
+-- the words of a text are its next words, one after the other
+pub words-one-by-one : (text : List ℕ) → wordsOf text ≡ words-by (length text + 1) text 0
+words-one-by-one text = by-steps (length text + 1) text 0 (omega arith)

@@ -40,6 +40,9 @@ const BYTE: u8 = 4;
 
 const NUMBER: u8 = 5;
 
+// The number of the symbol of two bytes.
+const ARROW: u8 = 9;
+
 // What a stretch of bytes is made of.
 enum Sort {
     Separators,
@@ -73,6 +76,7 @@ fn is_digit(b: u8) -> bool
     }
 }
 
+// Whether a byte is of a sort.
 fn is_of(sort: Sort, b: u8) -> bool
     ensures { λ r. ⌜ r ≡ passes sort b ⌝ }
 {
@@ -149,17 +153,20 @@ const KEY_WORDS: [u64; 17] = [
     0x616472, // adr
 ];
 
-// A byte more of a word as one number, kept at 2^63.
+// A word's number is kept at 2^63, more than any key word's.
+const MOST: u64 = 0x8000000000000000;
+
+// The number of a word with a byte more.
 fn packed_more(v: u64, b: u8) -> u64
     ensures { λ r. ⌜ r ≡ min (v * 256 + b) cap ⌝ }
 {
-    if v < 36028797018963968 {
+    if v < MOST / 256 {
         return v * 256 + (b as u64);
     }
-    9223372036854775808
+    MOST
 }
 
-// A word as one number, kept at 2^63.
+// A word as one number.
 fn packed(word: &[u8]) -> u64
     ensures { λ r. ⌜ r ≡ min (pack 0 (now (word .entry))) cap ⌝ }
 {
@@ -213,6 +220,7 @@ fn spelled_at(text: &[u8], start: usize) -> Found
     }
 }
 
+// A number that was read, or NUMBER where it is outside the range.
 fn amount_found(start: usize, end: usize, amount: Amount) -> Found
     ensures { λ r. ⌜ r ≡ amountFound start end amount ⌝ }
 {
@@ -257,7 +265,7 @@ fn minus_at(text: &[u8], start: usize) -> Found
     }
     if text[second] == b'>' {
         return Found::Mark {
-            number: 9,
+            number: ARROW,
             start,
             end: start + 2,
         };

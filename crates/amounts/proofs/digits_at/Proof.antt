@@ -54,4 +54,6 @@ returns-2 c =
     (stretch-past isDigit (a .text .now) (l .loop .i) (omega (arith, c .loop-test .left)))
 
 pub digits-at-spec : {M : Type 1} → statement M
-digits-at-spec = tie.close (tie.spec Inv-loop μ-loop loop-holds shared-slice-read-b is-digit-requires returns with-digit-requires add-i loop-less loop-again returns-2)
+digits-at-spec =
+    tie.close
+    (tie.spec Inv-loop μ-loop loop-holds shared-slice-read-b is-digit-requires returns with-digit-requires add-i loop-less loop-again returns-2)

@@ -44,4 +44,6 @@ returns c =
     clearing-done (pos 0) (a .numbers .now) (a .n) (l .before .less-of .result) (l .loop .numbers) (l .loop .i) (l .loop .inv) (c .loop-test .left)
 
 pub clear-numbers-spec : {M : Type 1} → statement M
-clear-numbers-spec = tie.close (tie.spec Inv-loop μ-loop less-of-requires loop-holds mul-numbers slice-set-of-numbers add-i loop-less loop-again same-length returns)
+clear-numbers-spec =
+    tie.close
+    (tie.spec Inv-loop μ-loop less-of-requires loop-holds mul-numbers slice-set-of-numbers add-i loop-less loop-again same-length returns)

@@ -43,4 +43,6 @@ returns c =
     clearing-done 0 (a .words .now) (a .n) (l .before .less-of .result) (l .loop .words) (l .loop .i) (l .loop .inv) (c .loop-test .left)
 
 pub clear-words-spec : {M : Type 1} → statement M
-clear-words-spec = tie.close (tie.spec Inv-loop μ-loop less-of-requires loop-holds mul-words slice-write-words add-i loop-less loop-again same-length returns)
+clear-words-spec =
+    tie.close
+    (tie.spec Inv-loop μ-loop less-of-requires loop-holds mul-words slice-write-words add-i loop-less loop-again same-length returns)
