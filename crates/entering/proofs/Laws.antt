@@ -1,0 +1,177 @@
+-- The laws that the proofs of calls and definitions cite: what the code has found, step by step, is what the evaluator's definition says.
+use mathlib.Core.Path.{_≡_, refl, sym, ap, _∙_}
+use mathlib.Core.Bool.{Bool, true, false, not}
+use mathlib.Core.List.{List}
+use mathlib.Core.Logic.{_⊎_, ⊎-elim}
+use Prim.Native.Nat.{ℕ, suc, _+_, _-_, _≤_, _<_}
+use native.Mathlib.Numerals.{add-one}
+use native.Mathlib.Omega.{arith}
+use denote.Enum.Declared.{tagOf}
+use lib.Dec.{leb}
+use lib.IntN.{ℤ}
+use borrow.Author.Tests.{eq-eqb, ne-eqb, leb-true, leb-false, le-leb, lt-leb, lt-ltb, le-ltb, not-false}
+use Rattle.nodes.specs.declared.Node.{Node}
+use Rattle.nodes.specs.Nodes.{nodeAt}
+use Rattle.machine.specs.declared.Row.{Row}
+use Rattle.machine.specs.declared.Counts.{Counts}
+use Rattle.machine.specs.declared.Ending.{Ending}
+use Rattle.machine.specs.declared.Ending.the-variants.{Value, Stop, NoRule}
+use Rattle.machine.specs.Entries.{pick, rowAt, putRow, binding, putBinding, nodeOf, envOf}
+use Rattle.machine.specs.State.{Run, Tables, tables, Ret, is, onValue, andThen}
+use Rattle.machine.specs.Leaves.{Opened, isParam, bodyAfter, bindAll, enter, enterAgain, openFunction, openProcedure, define, defineCell}
+use Rattle.machine.proofs.Ending.{the-type}
+use Rattle.entering.specs.Opening.{opened, withBindings}
+
+-- n more fit under the limit where the limit less what is taken holds them
+pub room-some : (n taken limit : ℕ) → taken ≤ limit → leb n (limit - taken) ≡ leb (n + taken) limit
+room-some n taken limit h = by (leb n (limit - taken)) refl
+  where
+    by : (t : Bool) → leb n (limit - taken) ≡ t → t ≡ leb (n + taken) limit
+    by true e = let l = leb-true n (limit - taken) e in sym (le-leb (n + taken) limit (omega arith))
+    by false e = let l = leb-false n (limit - taken) e in sym (lt-leb (n + taken) limit (omega arith))
+
+pub room-there : (r : Bool) (n limit : ℕ) → r ≡ leb n limit → not r ≡ false → n ≤ limit
+room-there r n limit r-is h = leb-true n limit (sym r-is ∙ not-false r h)
+
+-- ---- loops over parameters
+
+one-more : (k : ℕ) → (k ≡ 0 → ⊥) → k ≡ suc (k - 1)
+one-more k h = omega arith
+
+module _ (tree : List ℕ) (k q : ℕ) where
+  module _ (t : Bool) where
+    module _ (some : k ≡ 0 → ⊥) (x : Node) (x-is : x ≡ nodeAt tree q) (t-is : t ≡ isParam (x .kind)) where
+      body-go : bodyAfter tree k q ≡ bodyAfter tree (suc (k - 1)) q
+      body-go = ap (λ (j : ℕ). bodyAfter tree j q) (one-more k some)
+
+      pub body-goes-on : t ≡ true → bodyAfter tree (k - 1) (x .next) ≡ bodyAfter tree k q
+      unfolding bodyAfter pick
+      body-goes-on h = rw (body-go, ← x-is, ← t-is, h)
+
+      pub body-too-few : t ≡ false → NoRule ≡ bodyAfter tree k q
+      unfolding bodyAfter pick
+      body-too-few h = rw (body-go, ← x-is, ← t-is, h)
+
+    module _ (none : k ≡ 0) (kind : ℕ) (kind-is : kind ≡ nodeAt tree q .kind) (t-is : t ≡ isParam kind) where
+      pub body-too-many : t ≡ true → NoRule ≡ bodyAfter tree k q
+      unfolding bodyAfter pick
+      body-too-many h = rw (none, ← kind-is, ← t-is, h)
+
+      pub body-found : t ≡ false → Value 7 q ≡ bodyAfter tree k q
+      unfolding bodyAfter pick
+      body-found h = rw (none, ← kind-is, ← t-is, h)
+
+module _ (tree w : List ℕ) (left at from next within : ℕ) (b : List ℕ) where
+  pub bind-goes-on : (b₁ : List ℕ) (x : Node) (r : Row) → (left ≡ 0 → ⊥) → x ≡ nodeAt tree at → r ≡ rowAt w from →
+      b₁ ≡ putBinding b next (binding (x .place) (r .tag) (r .word) within) →
+      bindAll tree (left - 1) (x .next) (from + 1) w (next + 1) (next + 1) b₁ ≡ bindAll tree left at from w next within b
+  unfolding bindAll
+  bind-goes-on b₁ x r some x-is r-is b-is =
+      rw (b-is, x-is, r-is, add-one from, add-one next) (ap (λ (j : ℕ). bindAll tree j at from w next within b) (sym (one-more left some)))
+
+  pub bind-ends : left ≡ 0 → opened within b ≡ bindAll tree left at from w next within b
+  unfolding bindAll
+  bind-ends none = rw none
+
+-- ---- calls
+
+-- an answer that is no value is passed on
+pub not-value : (e : Ending) → (tagOf the-type e ≡ 1) ⊎ (tagOf the-type e ≡ 2) → (m : Tables) (k : ℕ → ℕ → Tables → Ret) →
+    is e m ≡ onValue e m k
+not-value (Value t x) h m k = ⊎-elim (λ q. absurd (omega arith)) (λ q. absurd (omega arith)) h
+not-value (Stop n p) h m k = refl
+not-value NoRule h m k = refl
+
+module _ (g : Run) (p n sp q : ℕ) (m : Tables) (e : Ending) (e-is : e ≡ bodyAfter g.script.tree n q) where
+  module _ (env : ℕ) where
+    pub enter-not : (tagOf the-type e ≡ 1) ⊎ (tagOf the-type e ≡ 2) → is e m ≡ enter g p n sp q env m
+    unfolding enter andThen
+    enter-not h = rw (← e-is) (not-value e h m _)
+
+    module _ (t body : ℕ) (found : e ≡ Value t body) (r : Bool) (r-is : r ≡ leb (n + m .counts .bindings) (g.bounds .bindings)) where
+      pub enter-full : r ≡ false → is (Stop 23 p) m ≡ enter g p n sp q env m
+      unfolding enter andThen pick
+      enter-full h = rw (← e-is, found, ← r-is, h)
+
+      pub enter-some : r ≡ true → (within : ℕ) (b : List ℕ) (k : Counts) →
+          opened within b ≡ bindAll g.script.tree n q sp (m .waiting) (m .counts .bindings) env (m .bindings) → k ≡ withBindings n (m .counts) →
+          is (Value within body) (tables k b (m .cells) (m .output) (m .waiting)) ≡ enter g p n sp q env m
+      unfolding enter andThen pick
+      enter-some h within b k o-is k-is = rw (← e-is, found, ← r-is, h, ← o-is, k-is)
+
+  module _ (tag word : ℕ) where
+    pub named-not : (tagOf the-type e ≡ 1) ⊎ (tagOf the-type e ≡ 2) → is e m ≡ enterAgain g p n sp q tag word m
+    unfolding enterAgain andThen
+    named-not h = rw (← e-is) (not-value e h m _)
+
+    module _ (t body : ℕ) (found : e ≡ Value t body) (r : Bool) (r-is : r ≡ leb (suc n + m .counts .bindings) (g.bounds .bindings)) where
+      pub named-full : r ≡ false → is (Stop 23 p) m ≡ enterAgain g p n sp q tag word m
+      unfolding enterAgain andThen pick
+      named-full h = rw (← e-is, found, ← r-is, h)
+
+      pub named-some : r ≡ true → (env within node place : ℕ) (b b₁ : List ℕ) (k : Counts) → env ≡ envOf word →
+          opened within b ≡ bindAll g.script.tree n q sp (m .waiting) (m .counts .bindings) env (m .bindings) →
+          node ≡ nodeOf word → place ≡ nodeAt g.script.tree node .place →
+          b₁ ≡ putBinding b (n + m .counts .bindings) (binding place tag word within) →
+          k ≡ withBindings (n + 1) (m .counts) →
+          is (Value (n + m .counts .bindings + 1) body) (tables k b₁ (m .cells) (m .output) (m .waiting)) ≡ enterAgain g p n sp q tag word m
+      unfolding enterAgain andThen pick
+      named-some h env within node place b b₁ k env-is o-is node-is place-is b-is k-is =
+          rw (← e-is, found, ← r-is, h, ← env-is, ← o-is, ← node-is, ← place-is, ← b-is, k-is, add-one n, add-one (n + m .counts .bindings))
+
+module _ (g : Run) (p n sp tag word : ℕ) (m : Tables) where
+  module _ (node : ℕ) (node-is : node ≡ nodeOf word) where
+    pub function-plain : tag ≡ 1 → (env : ℕ) → env ≡ envOf word → enter g p n sp node env m ≡ openFunction g p n sp tag word m
+    unfolding openFunction pick
+    function-plain h env env-is = rw (h, node-is, env-is)
+
+    pub function-named : tag ≡ 2 → (result first : ℕ) → result ≡ nodeAt g.script.tree node .next → first ≡ nodeAt g.script.tree result .next →
+        enterAgain g p n sp first tag word m ≡ openFunction g p n sp tag word m
+    unfolding openFunction pick
+    function-named h result first result-is first-is = rw (first-is, result-is, node-is, h)
+
+    pub procedure-plain : tag ≡ 3 → (env : ℕ) → env ≡ envOf word → enter g p n sp node env m ≡ openProcedure g p n sp tag word m
+    unfolding openProcedure pick
+    procedure-plain h env env-is = rw (h, node-is, env-is)
+
+    pub procedure-named : tag ≡ 4 → (first : ℕ) → first ≡ nodeAt g.script.tree node .next →
+        enterAgain g p n sp first tag word m ≡ openProcedure g p n sp tag word m
+    unfolding openProcedure pick
+    procedure-named h first first-is = rw (first-is, node-is, h)
+
+  pub function-none : (tag ≡ 1 → ⊥) → (tag ≡ 2 → ⊥) → is NoRule m ≡ openFunction g p n sp tag word m
+  unfolding openFunction pick
+  function-none h k = rw (ne-eqb tag 1 h, ne-eqb tag 2 k)
+
+  pub procedure-none : (tag ≡ 3 → ⊥) → (tag ≡ 4 → ⊥) → is NoRule m ≡ openProcedure g p n sp tag word m
+  unfolding openProcedure pick
+  procedure-none h k = rw (ne-eqb tag 3 h, ne-eqb tag 4 k)
+
+-- ---- definitions
+
+module _ (g : Run) (p q : ℕ) (env : ℕ) (m : Tables) where
+  module _ (tag word : ℕ) where
+    pub define-some : m .counts .bindings < g.bounds .bindings → (b : List ℕ) (k : Counts) →
+        b ≡ putBinding (m .bindings) (m .counts .bindings) (binding q tag word env) → k ≡ withBindings 1 (m .counts) →
+        is (Value 7 (m .counts .bindings + 1)) (tables k b (m .cells) (m .output) (m .waiting)) ≡ define g p q tag word env m
+    unfolding define pick
+    define-some h b k b-is k-is = rw (lt-ltb _ _ h, b-is, k-is, add-one (m .counts .bindings))
+
+    pub define-full : g.bounds .bindings ≤ m .counts .bindings → is (Stop 23 p) m ≡ define g p q tag word env m
+    unfolding define pick
+    define-full h = rw (le-ltb _ _ h)
+
+  pub cell-some : m .counts .cells < g.bounds .cells → (c : List ℕ) → c ≡ putRow (m .cells) (m .counts .cells) 6 0 →
+      define g p q 5 (m .counts .cells) env
+      (tables
+      (record { units = m .counts .units; bindings = m .counts .bindings; cells = m .counts .cells + 1; numbers = m .counts .numbers })
+      (m .bindings)
+      c
+      (m .output)
+      (m .waiting)) ≡ defineCell g p q env m
+  unfolding defineCell pick
+  cell-some h c c-is = rw (lt-ltb _ _ h, c-is, add-one (m .counts .cells))
+
+  pub cell-full : g.bounds .cells ≤ m .counts .cells → is (Stop 22 p) m ≡ defineCell g p q env m
+  unfolding defineCell pick
+  cell-full h = rw (le-ltb _ _ h)

@@ -1,0 +1,76 @@
+use Prim.Native.Nat.{_+_}
+use mathlib.Core.Path.{_≡_, refl, _∙_}
+use native.Mathlib.Omega.{arith}
+use lib.ListN.{length}
+use Rattle.machine.specs.Leaves.{bindAll}
+use Rattle.entering.proofs.Laws.{bind-goes-on, bind-ends}
+use borrow.Author.Needs.{needs}
+use Rattle.entering.proofs.bind_all.Statement.{statement}
+use Rattle.entering.proofs.bind_all.Tie as tie
+
+abbrev Inv-loop : tie.InvT-loop
+Inv-loop tree bindings₀ waiting n q sp k env left₀ at₀ from₀ next₀ within₀ bindings left at from next within =
+    (bindAll tree left at from waiting next within bindings ≡ bindAll tree n q sp waiting k env bindings₀) × (left + next ≡ n + k) × (from +
+    left ≡ sp + n) × (length bindings ≡ length bindings₀)
+
+abbrev μ-loop : tie.MeasureT-loop
+μ-loop tree bindings₀ waiting n q sp k env left₀ at₀ from₀ next₀ within₀ bindings left at from next within = left
+
+loop-holds : tie.Need-loop-holds Inv-loop μ-loop
+loop-holds c = (refl, refl, refl, refl)
+
+node-at-requires : tie.Need-node-at-requires Inv-loop μ-loop
+node-at-requires c κs = search needs
+
+row-at-requires : tie.Need-row-at-requires Inv-loop μ-loop
+row-at-requires c κs = search needs
+
+put-binding-requires : tie.Need-put-binding-requires Inv-loop μ-loop
+put-binding-requires c κs = search needs
+
+add-from : tie.Need-add-from Inv-loop μ-loop
+add-from c = search needs
+
+add-next : tie.Need-add-next Inv-loop μ-loop
+add-next c = search needs
+
+sub-left : tie.Need-sub-left Inv-loop μ-loop
+sub-left c = search needs
+
+loop-less : tie.Need-loop-less Inv-loop μ-loop
+loop-less c = search needs
+
+loop-again : tie.Need-loop-again Inv-loop μ-loop
+loop-again c =
+    let put-binding = c .before .before .put-binding in let c₁ = c .before .before .before .before in let row-at = c₁ .row-at in
+    let node-at = c₁ .before .node-at in let test = c₁ .before .before .loop-test in let turn = c₁ .before .before .before .loop in (
+      bind-goes-on _ _ _ _ _ _ _ _ _ _ _ (test .taken) (node-at .ensures) (row-at .ensures) (put-binding .ensures) ∙ turn .inv .0,
+      omega
+          arith,
+      omega arith,
+      omega (arith, put-binding .kept, turn .inv),
+    )
+
+same-length : tie.Need-same-length Inv-loop μ-loop
+same-length c = c .before .loop .inv .3
+
+returns : tie.Need-returns Inv-loop μ-loop
+returns c = bind-ends _ _ _ _ _ _ _ _ (c .loop-test .left) ∙ c .before .loop .inv .0
+
+pub bind-all-spec : {M : Type 1} → statement M
+bind-all-spec =
+    tie.close
+    (tie.spec
+    Inv-loop
+    μ-loop
+    loop-holds
+    node-at-requires
+    row-at-requires
+    put-binding-requires
+    add-from
+    add-next
+    sub-left
+    loop-less
+    loop-again
+    same-length
+    returns)

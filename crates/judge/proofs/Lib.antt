@@ -1,0 +1,14 @@
+pub mod Examples
+pub mod Shapes
+pub mod Scoping
+pub mod Noting
+pub mod Spelling
+pub mod Verdicts
+pub mod Looking
+pub mod Written
+pub mod Parameters
+pub mod Expressions
+pub mod Definitions
+pub mod Statements
+pub mod Programs
+pub mod Right

@@ -1,0 +1,252 @@
+-- The relation's laws: what is kept, and one law for each way in which the rules are put together.
+use mathlib.Core.Path.{_≡_, refl, _∙_}
+use mathlib.Core.Bool.{Bool, true, false, cond}
+use mathlib.Core.List.{List}
+use mathlib.Core.Option.{Option, none, some}
+use Prim.Native.Nat.{ℕ, zero, suc, _-_, _≤_, _<_}
+use native.Mathlib.Nat.{le-refl, le-trans, not-suc-le-zero}
+use native.Mathlib.Omega.{arith}
+use lib.Dec.{T, eqb, ltb, eqb·suc-zero, eqb·suc-suc}
+use lib.IntN.{pos, negsuc}
+use mir.Syntax.{w64}
+use mir.Val.{toZ, sel}
+use Rattle.language.specs.Answers.{LimitStop, Stop, limit, stop-number}
+use Rattle.language.specs.Numbers.{as-bit}
+use Rattle.language.specs.Rules.{Val, Env, State, Outcome, ok, bind, need, within, branch, lookup-env, as-number, as-truth, as-address}
+use Rattle.machine.specs.declared.Row.{Row}
+use Rattle.machine.specs.declared.Ending.{Ending}
+use Rattle.machine.specs.declared.Ending.the-variants.{Value, NoRule}
+use Rattle.machine.specs.declared.Ending.the-variants as E
+use Rattle.machine.specs.Entries.{pick, number-tag, address-tag, bindingAt}
+use Rattle.machine.specs.State.{Tables, Ret, is, andThen}
+use Rattle.machine.specs.Machine.{onBit}
+use Rattle.machine.specs.Leaves.{sameName, walk}
+use Rattle.machine.proofs.Lists.{Asks, asks-yes, asks-no}
+use Rattle.machine.proofs.Relation.{Stage, Kept, Thing, Old, Rep, v-num, v-fun, v-rec, v-proc, v-proc-rec, v-adr, e-none, e-bound, ValR, EnvR, Found, found, lost, CellR, c-unset, c-set, Waits, w-none, w-more, R, Grow, Sim, goes, stops, no-way, Spent, name-in}
+
+less-one : (k : ℕ) → suc k - 1 ≡ k
+less-one k = omega arith
+
+walk-suc : (text b : List ℕ) (q n k : ℕ) → walk text b q (suc n) (suc k) ≡
+    pick (sameName text (bindingAt b k .place) q) (λ _. Value (bindingAt b k .tag) (bindingAt b k .word)) λ _. walk text b q n (bindingAt b k .link)
+unfolding walk pick
+walk-suc text b q n k = rw (eqb·suc-zero k, less-one k)
+
+-- ---- tables
+
+pub kept-self : {n : ℕ} {l : List ℕ} → Kept n l l
+kept-self = record { long = refl; beyond = refl }
+
+pub kept-then : {n : ℕ} {a b c : List ℕ} → Kept n a b → Kept n b c → Kept n a c
+kept-then h k = record { long = k .long ∙ h .long; beyond = k .beyond ∙ h .beyond }
+
+module _ {g : Stage} where
+  -- ---- what stays related while bindings are added
+
+  pub keep : {b b′ : List ℕ} {c c′ : ℕ} {x : Thing} → Rep g b c x → c ≤ c′ → Old b c b′ → Rep g b′ c′ x
+  keep (v-num x) h o = v-num x
+  keep (v-fun p e n) h o = v-fun p e (keep n h o)
+  keep (v-rec p e n) h o = v-rec p e (keep n h o)
+  keep (v-proc p e n) h o = v-proc p e (keep n h o)
+  keep (v-proc-rec p e n) h o = v-proc-rec p e (keep n h o)
+  keep v-adr h o = v-adr
+  keep e-none h o = e-none
+  keep (e-bound {k = k} l e u n) h o =
+      e-bound (le-trans l h) (o k l ∙ e) (keep u (le-refl _) (λ j s. o j (le-trans s (omega arith))))
+      (keep n (le-refl _) (λ j s. o j (le-trans s (omega arith))))
+
+  pub cell-keep : {b b′ : List ℕ} {c c′ : ℕ} {o : Option Val} {r : Row} → CellR g b c o r → c ≤ c′ → Old b c b′ → CellR g b′ c′ o r
+  cell-keep c-unset h o = c-unset
+  cell-keep (c-set u) h o = c-set (keep u h o)
+
+  pub waits-keep : {b b′ : List ℕ} {c c′ : ℕ} {w : List ℕ} {sp : ℕ} {us : List Val} → Waits g b c w sp us → c ≤ c′ → Old b c b′ → Waits g b′ c′ w sp us
+  waits-keep w-none h o = w-none
+  waits-keep (w-more e u w) h o = w-more e (keep u h o) (waits-keep w h o)
+
+  -- an environment's number is at most the number of bindings
+  pub env-in : {b : List ℕ} {c n : ℕ} {ρ : Env} → EnvR g b c ρ n → n ≤ c
+  env-in e-none = omega arith
+  env-in (e-bound l e u n) = l
+
+  pub tag-small : {b : List ℕ} {c t x : ℕ} {u : Val} → ValR g b c u t x → t < 65536
+  tag-small (v-num x) = omega arith
+  tag-small (v-fun p e n) = omega arith
+  tag-small (v-rec p e n) = omega arith
+  tag-small (v-proc p e n) = omega arith
+  tag-small (v-proc-rec p e n) = omega arith
+  tag-small v-adr = omega arith
+
+  -- ---- the chain of bindings is the rules' environment
+
+  found-up : {b : List ℕ} {k c : ℕ} {o : Option Val} {a : Ending} → k ≤ c → Found g b k o a → Found g b c o a
+  found-up h (found u) = found (keep u h (λ j s. refl))
+  found-up h lost = lost
+
+  found-pick : {b : List ℕ} {c : ℕ} (s : Bool) {u : Val} {t x : ℕ} {o : Option Val} {a : Ending} → ValR g b c u t x → Found g b c o a →
+      Found g b c (cond s (some u) o) (pick s (λ _. Value t x) λ _. a)
+  unfolding pick
+  found-pick true u h = found u
+  found-pick false u h = h
+
+  pub walk-finds : {b : List ℕ} {c : ℕ} {ρ : Env} {e : ℕ} → EnvR g b c ρ e → (q n : ℕ) → c ≤ n →
+      Found g b c (lookup-env ρ (name-in g q)) (walk (g.script .text) b q n e)
+  unfolding walk pick sameName
+  walk-finds e-none q zero h = lost
+  walk-finds e-none q (suc n) h = lost
+  walk-finds (e-bound l e u m) q zero h = absurd (not-suc-le-zero (le-trans l h))
+  walk-finds {b} (e-bound {k = k} {p = z} l e u m) q (suc n) h =
+      rw (walk-suc (g.script .text) b q n k, e)
+      (found-pick (sameName (g.script .text) z q) (keep u (omega arith) (λ j s. refl)) (found-up (omega arith) (walk-finds m q n (omega arith))))
+
+  -- ---- states that go on
+
+  pub grow-self : {sp : ℕ} {m : Tables} → Grow g sp m m
+  grow-self = record { more = le-refl _; old = λ k h. refl; waits = λ k h. refl; fell = le-refl _ }
+
+  pub grow-trans : {sp : ℕ} {m m₁ m₂ : Tables} → Grow g sp m m₁ → Grow g sp m₁ m₂ → Grow g sp m m₂
+  grow-trans a b =
+      record {
+        more = le-trans (a .more) (b .more);
+        old = λ k s. b .old k (le-trans s (a .more)) ∙ a .old k s;
+        waits = λ k s. b .waits k s ∙ a .waits k s;
+        fell = le-trans (b .fell) (a .fell);
+      }
+
+  pub grow-low : {sp sp′ : ℕ} {m m₁ : Tables} → sp ≤ sp′ → Grow g sp′ m m₁ → Grow g sp m m₁
+  grow-low l a = record { more = a .more; old = a .old; waits = λ k s. a .waits k (le-trans s l); fell = a .fell }
+
+  module _ {A : Type 0} {P : A → (t x : ℕ) → Tables → Type 0} where
+    pub sim-lift : {sp : ℕ} {m m₁ : Tables} {o : Outcome A} {r : Ret} → Grow g sp m m₁ → Sim g P sp m₁ o r → Sim g P sp m o r
+    sim-lift a (goes p s h) = goes p s (grow-trans a h)
+    sim-lift a (stops s) = stops s
+    sim-lift a (no-way s) = no-way s
+
+    pub sim-low : {sp sp′ : ℕ} {m : Tables} {o : Outcome A} {r : Ret} → sp ≤ sp′ → Sim g P sp′ m o r → Sim g P sp m o r
+    sim-low l (goes p s h) = goes p s (grow-low l h)
+    sim-low l (stops s) = stops s
+    sim-low l (no-way s) = no-way s
+
+    -- an answer that took a unit is an answer; one from a state with fewer units took one
+    pub relax : {sp : ℕ} {m : Tables} {o : Outcome A} {r : Ret} → Sim g (Spent g m P) sp m o r → Sim g P sp m o r
+    relax (goes p s h) = goes (p .it) s h
+    relax (stops s) = stops s
+    relax (no-way s) = no-way s
+
+    pub tighten : {sp : ℕ} {m m₁ : Tables} {o : Outcome A} {r : Ret} → m₁ .counts .units < m .counts .units → Grow g sp m m₁ → Sim g P sp m₁ o r →
+        Sim g (Spent g m P) sp m o r
+    tighten l a (goes p s h) = goes (record { it = p; less = omega (arith, h .fell) }) s (grow-trans a h)
+    tighten l a (stops s) = stops s
+    tighten l a (no-way s) = no-way s
+
+    -- a test of the machine alone
+    pub sim-yes : (b : Bool) {sp : ℕ} {m : Tables} {o : Outcome A} {r : Ret} (k : Unit {0} → Ret) → T b → Sim g P sp m o r → Sim g P sp m o (pick b (λ _. r) k)
+    unfolding pick
+    sim-yes true k h i = i
+    sim-yes false k h i = absurd h
+
+    pub sim-no : (b : Bool) {sp : ℕ} {m : Tables} {o : Outcome A} {r : Ret} (k : Unit {0} → Ret) → (T b → ⊥) → Sim g P sp m o r →
+        Sim g P sp m o (pick b k (λ _. r))
+    unfolding pick
+    sim-no true k h i = absurd (h tt)
+    sim-no false k h i = i
+
+    pub sim-if : (b : Bool) {sp : ℕ} {m : Tables} {o : Outcome A} {r r′ : Ret} → (T b → Sim g P sp m o r) → ((T b → ⊥) → Sim g P sp m o r′) →
+        Sim g P sp m o (pick b (λ _. r) λ _. r′)
+    unfolding pick
+    sim-if true h k = h tt
+    sim-if false h k = k (λ f. f)
+
+    -- a limit is tested
+    pub sim-within : (b b′ : Bool) (l : LimitStop) (p : ℕ) {s : State} {sp : ℕ} {m : Tables} {o : Outcome A} {r : Ret} → (T b → T b′) × (T b′ → T b) → R g s m →
+        (T b → Sim g P sp m o r) → Sim g P sp m (within b l p s o) (pick b′ (λ _. r) (λ _. is (E.Stop (stop-number (limit l)) p) m))
+    unfolding within pick
+    sim-within true true l p f s h = h tt
+    sim-within true false l p f s h = absurd (f .0 tt)
+    sim-within false true l p f s h = absurd (f .1 tt)
+    sim-within false false l p f s h = stops s
+
+  module _ {A B : Type 0} {P : A → (t x : ℕ) → Tables → Type 0} {Q : B → (t x : ℕ) → Tables → Type 0} where
+    -- one part, and then the rest
+    pub sim-bind : {sp : ℕ} {m : Tables} {o : Outcome A} {r : Ret} {k : A → State → Outcome B} {k′ : ℕ → ℕ → Tables → Ret} → Sim g P sp m o r →
+        ((a : A) (s : State) (t x : ℕ) (m₁ : Tables) → P a t x m₁ → R g s m₁ → Grow g sp m m₁ → Sim g Q sp m₁ (k a s) (k′ t x m₁)) →
+        Sim g Q sp m (bind o k) (andThen r k′)
+    unfolding bind andThen
+    sim-bind (goes p s a) f = sim-lift a (f _ _ _ _ _ p s a)
+    sim-bind (stops s) f = stops s
+    sim-bind (no-way s) f = no-way s
+
+    -- the rules change the answer, the machine does not
+    pub sim-map : {sp : ℕ} {m : Tables} {o : Outcome A} {r : Ret} (f : A → B) → Sim g P sp m o r →
+        ((a : A) (t x : ℕ) (m₁ : Tables) → P a t x m₁ → Grow g sp m m₁ → Q (f a) t x m₁) → Sim g Q sp m (bind o (λ a s. ok (f a) s)) r
+    unfolding bind
+    sim-map h (goes p s a) f = goes (f _ _ _ _ p a) s a
+    sim-map h (stops s) f = stops s
+    sim-map h (no-way s) f = no-way s
+
+  module _ {A : Type 0} {P : A → (t x : ℕ) → Tables → Type 0} {Q : A → (t x : ℕ) → Tables → Type 0} where
+    -- the machine changes the answer, the rules do not
+    pub sim-end : {sp : ℕ} {m : Tables} {o : Outcome A} {r : Ret} {k : ℕ → ℕ → Tables → Ret} → Sim g P sp m o r →
+        ((a : A) (s : State) (t x : ℕ) (m₁ : Tables) → P a t x m₁ → R g s m₁ → Grow g sp m m₁ → Sim g Q sp m₁ (ok a s) (k t x m₁)) →
+        Sim g Q sp m o (andThen r k)
+    unfolding andThen
+    sim-end (goes p s a) f = sim-lift a (f _ _ _ _ _ p s a)
+    sim-end (stops s) f = stops s
+    sim-end (no-way s) f = no-way s
+
+  module _ {A B : Type 0} {P : B → (t x : ℕ) → Tables → Type 0} {Q : A → Type 0} where
+    -- a form is asked for
+    pub sim-need : {o : Option A} {b : Bool} (p : ℕ) {s : State} {sp : ℕ} {m : Tables} {k : A → Outcome B} {r : Ret} → Asks Q o b → R g s m →
+        ((a : A) → Q a → Sim g P sp m (k a) r) → Sim g P sp m (need o p s k) (pick b (λ _. r) (λ _. is NoRule m))
+    unfolding need pick
+    sim-need p (asks-yes q) s f = f _ q
+    sim-need p asks-no s f = no-way s
+
+    -- the same where the machine only answers
+    pub end-need : {o : Option A} {b : Bool} (p : ℕ) {s : State} {sp : ℕ} {m : Tables} {k : A → Outcome B} {e : Ending} → Asks Q o b → R g s m →
+        ((a : A) → Q a → Sim g P sp m (k a) (is e m)) → Sim g P sp m (need o p s k) (is (pick b (λ _. e) (λ _. NoRule)) m)
+    unfolding need pick
+    end-need p (asks-yes q) s f = f _ q
+    end-need p asks-no s f = no-way s
+
+  -- ---- the forms of values
+
+  pub asks-num : {b : List ℕ} {c t x : ℕ} {u : Val} → ValR g b c u t x → Asks (λ z. z ≡ toZ w64 x) (as-number u) (eqb t number-tag)
+  asks-num (v-num x) = asks-yes refl
+  asks-num (v-fun p e n) = asks-no
+  asks-num (v-rec p e n) = asks-no
+  asks-num (v-proc p e n) = asks-no
+  asks-num (v-proc-rec p e n) = asks-no
+  asks-num v-adr = asks-no
+
+  pub asks-address : {b : List ℕ} {c t x : ℕ} {u : Val} → ValR g b c u t x → Asks (λ a. a ≡ x) (as-address u) (eqb t address-tag)
+  asks-address (v-num x) = asks-no
+  asks-address (v-fun p e n) = asks-no
+  asks-address (v-rec p e n) = asks-no
+  asks-address (v-proc p e n) = asks-no
+  asks-address (v-proc-rec p e n) = asks-no
+  asks-address v-adr = asks-yes refl
+
+-- a word of 2 and more is no bit
+pub no-bit : (b : Bool) (n k : ℕ) → as-bit (sel b (pos (suc (suc n))) (negsuc k)) ≡ none
+no-bit true n k = refl
+no-bit false n k = refl
+
+module _ {g : Stage} {B : Type 0} {P : B → (t x : ℕ) → Tables → Type 0} where
+  word-bit : (x p : ℕ) {s : State} {sp : ℕ} {m : Tables} {a b : Outcome B} {r₁ r₀ : Ret} → R g s m → Sim g P sp m a r₁ → Sim g P sp m b r₀ →
+      Sim g P sp m (need (as-bit (toZ w64 x)) p s λ t. branch t a b) (pick (eqb x 0) (λ _. r₀) λ _. pick (eqb x 1) (λ _. r₁) λ _. is NoRule m)
+  unfolding need branch pick
+  word-bit zero p s h k = k
+  word-bit (suc zero) p s h k = h
+  word-bit (suc (suc n)) p s h k = rw (no-bit (ltb (suc (suc n)) 9223372036854775808) n _, eqb·suc-zero (suc n), eqb·suc-suc (suc n) 0, eqb·suc-zero n)
+      (no-way s)
+
+  -- 1 or 0 is asked for
+  pub sim-bit : {b : List ℕ} {c t x : ℕ} {u : Val} (p : ℕ) {s : State} {sp : ℕ} {m : Tables} {oa ob : Outcome B} {r₁ r₀ : Ret} → ValR g b c u t x → R g s m →
+      Sim g P sp m oa r₁ → Sim g P sp m ob r₀ → Sim g P sp m (need (as-truth u) p s λ t. branch t oa ob) (onBit t x m (λ _. r₁) λ _. r₀)
+  unfolding need pick onBit
+  sim-bit p (v-num x) s h k = word-bit x p s h k
+  sim-bit p (v-fun q e n) s h k = no-way s
+  sim-bit p (v-rec q e n) s h k = no-way s
+  sim-bit p (v-proc q e n) s h k = no-way s
+  sim-bit p (v-proc-rec q e n) s h k = no-way s
+  sim-bit p v-adr s h k = no-way s

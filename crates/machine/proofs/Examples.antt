@@ -1,0 +1,55 @@
+-- Scripts run by the evaluator over tables, by computation: what document 01's desk expects.
+use Prim.Native.Nat.{ℕ, _*_}
+use Prim.Native.String.{String}
+use mathlib.Core.Path.{_≡_, refl}
+use mathlib.Core.List.{List, [], _∷_}
+use lib.IntN.{pos, negsuc}
+use lib.ListN.{replicate}
+use Rattle.language.specs.Bytes.{bytesOf}
+use Rattle.language.specs.Syntax.{Block}
+use Rattle.language.specs.Answers.{DEPTH, BINDINGS, limit, done, stopped, Result, fine, refuse}
+use Rattle.language.specs.Names.{meaning}
+use Rattle.language.specs.Limits.{Limits}
+use Rattle.language.specs.Outcome.{Report}
+use Rattle.language.specs.Desk.{Case, case, ends, limited}
+use Rattle.language.specs.Words.{wordsFrom}
+use Rattle.language.specs.Table.{table, enc, size, first, shapeType, shapeTypes, shapeArg, shapeArgs, shapeArgP, shapeArgsP, shapeExpr, shapeExprs, shapeExprP, shapeExprsP, shapeCmds, shapeDef, shapeStat, shapeBlock}
+use Rattle.language.proofs.reading.Machine.{set-sib, link, add-leaf, add-fork, retype, parse}
+use Rattle.language.proofs.reading.Descent.{descent}
+use Rattle.language.proofs.reading.Reader.{past, deep, read}
+use Rattle.nodes.specs.Nodes.{nodeAt}
+use Rattle.nodes.specs.Written.{numberAt}
+use Rattle.machine.specs.Entries.{pick, rowAt, putRow, bindingAt, putBinding, closureWord, nodeOf, envOf}
+use Rattle.machine.specs.State.{andThen, guard}
+use Rattle.machine.specs.Leaves.{meaningAt, sameName, walk, boundTo, addressOf, readThrough, nameBy, nameValue, numeralAt, computedBy, negated, combined, operate, isParam, bodyAfter, bindAll, enter, enterAgain, openFunction, openProcedure, define, defineCell}
+use Rattle.machine.specs.Machine.{onBit, args, allArgs, ifE, andE, orE, operatorE, callE, operatorAt, applyE, exprBy, constC, echoC, setC, blockC, ifC, callC, round, rounds, cmdBy, cmdIn, cmds, step, bottom, evaluators, blockAt}
+use Rattle.machine.specs.Shown.{fresh, program, shown}
+
+abbrev tree-of : Result Block → List ℕ
+tree-of (fine b) = table b
+tree-of (refuse r p) = []
+
+abbrev run-text : String → Limits → Report
+run-text s L =
+    shown (L .fuel) (program (tree-of (read (bytesOf s))) (bytesOf s) L
+    (fresh (L .fuel) (replicate (2 * L .bindings) 7) (replicate (2 * L .cells) 7) (replicate (L .output) (pos 7)) (replicate 40 7)))
+
+-- each case's run is what is expected of it
+abbrev AllShown : List Case → Type 0
+AllShown [] = Unit {0}
+AllShown (c ∷ cs) = (run-text (c .script) (c .limits) ≡ c .says) × AllShown cs
+
+abbrev scripts : List Case
+scripts =
+    case "[PROC p [var x:int] [SET x (add x 1)]; VAR v int; SET v 41; CALL p (adr v); ECHO v]" (limited 100 20 4 4 4) (ends done 12 3 1 (pos 42 ∷ [])) ∷
+    case "[FUN REC f int [n:int] (if (lt n 1) 0 (add n (f (sub n 1)))); ECHO (f 3)]" (limited 100 20 9 0 1) (ends done 43 9 0 (pos 6 ∷ [])) ∷
+    case "[FUN REC f int [n:int] (if (lt n 1) 0 (add n (f (sub n 1)))); ECHO (f 3)]" (limited 100 20 8 0 1) (ends (stopped (limit BINDINGS) 45) 38 7 0 []) ∷
+    case "[FUN REC f int [n:int] (if (lt n 1) 0 (add n (f (sub n 1)))); ECHO (f 3)]" (limited 100 9 9 0 1) (ends (stopped (limit DEPTH) 53) 26 5 0 []) ∷
+    case "[VAR x int; SET x 0; WHILE (lt x 3) [ECHO x; SET x (add x 1)]]" (limited 100 20 4 4 4) (ends done 37 1 1 (pos 0 ∷ pos 1 ∷ pos 2 ∷ [])) ∷
+    case "[CONST x int 1; FUN f int [y:int] x; CONST x int 2; ECHO (f 0)]" (limited 100 20 4 0 1) (ends done 10 4 0 (pos 1 ∷ [])) ∷
+    case "[VAR x bool; ECHO (if (and false x) 1 (div -7 2))]" (limited 100 20 4 1 1) (ends done 8 1 1 (negsuc 2 ∷ [])) ∷
+    []
+
+scripts-shown : AllShown scripts
+unfolding read wordsFrom parse add-leaf add-fork link set-sib retype descent past deep table enc size first shapeType shapeTypes shapeArg shapeArgs shapeArgP shapeArgsP shapeExpr shapeExprs shapeExprP shapeExprsP shapeCmds shapeDef shapeStat shapeBlock meaning nodeAt numberAt pick rowAt putRow bindingAt putBinding closureWord nodeOf envOf andThen guard meaningAt sameName walk boundTo addressOf readThrough nameBy nameValue numeralAt computedBy negated combined operate isParam bodyAfter bindAll enter enterAgain openFunction openProcedure define defineCell onBit args allArgs ifE andE orE operatorE callE operatorAt applyE exprBy constC echoC setC blockC ifC callC round rounds cmdBy cmdIn cmds step bottom evaluators blockAt program
+scripts-shown = (refl, (refl, (refl, (refl, (refl, (refl, (refl, tt)))))))

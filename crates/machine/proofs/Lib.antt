@@ -1,0 +1,16 @@
+pub mod Examples
+pub mod Members
+pub mod Entries
+pub mod Lists
+pub mod Relation
+pub mod Agree
+pub mod States
+pub mod Enter
+pub mod Operate
+pub mod Names
+pub mod Rounds
+pub mod Closures
+pub mod Expressions
+pub mod Commands
+pub mod Adequate
+pub mod Whole

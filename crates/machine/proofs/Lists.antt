@@ -1,0 +1,116 @@
+-- Lists read and written at an index, the output table, and tests of counts.
+use mathlib.Core.Path.{_≡_, refl, sym, ap, _∙_}
+use mathlib.Core.Logic.{_≢_, ⊎-elim}
+use Prim.Native.Nat.{ℕ, zero, suc, _+_, _≤_, _<_}
+use native.Mathlib.Omega.{arith}
+use mathlib.Core.Bool.{Bool, true, false}
+use mathlib.Core.List.{List, [], _∷_, _++_, append-assoc}
+use mathlib.Core.Option.{Option, none, some, Option·none-ne-some, Option·some-injective}
+use lib.Dec.{T, ltb, leb, leb→le, le→leb, ltb→lt, lt→ltb, leb·zero, leb·suc-zero, leb·suc-suc}
+use lib.IntN.{ℤ, pos}
+use lib.ListN.{length, getD, set, drop, length-append}
+use lib.Seq.{drop-cons, set-append-seam}
+use Rattle.language.specs.Rules.{Val, nth, behind, store}
+use Rattle.nodes.proofs.Links.{below-or-not}
+
+-- a form is asked for: by the rules as an option, by the machine as a test
+pub data Asks {A : Type 0} (Q : A → Type 0) : Option A → Bool → Type 0 where
+  asks-yes : {a : A} → Q a → Asks Q (some a) true
+  asks-no : Asks Q none false
+
+-- ---- cells
+
+pub asks-entry : {A : Type 0} (l : List A) (a : ℕ) → Asks (λ c. nth l a ≡ some c) (nth l a) (ltb a (length l))
+asks-entry [] a = rw (leb·suc-zero a) asks-no
+asks-entry (x ∷ l) zero = rw (leb·suc-suc 0 (length l), leb·zero (length l)) (asks-yes refl)
+asks-entry (x ∷ l) (suc a) = rw (leb·suc-suc (suc a) (length l)) (asks-entry l a)
+
+pub asks-nth : {A : Type 0} (l : List A) (a n : ℕ) → length l ≡ n → Asks (λ c. nth l a ≡ some c) (nth l a) (ltb a n)
+asks-nth l a n h = rw (← h) (asks-entry l a)
+
+-- an entry of a list with one more at its end
+pub data Snoc {A : Type 0} (l : List A) (o : A) (a : ℕ) (c : A) : Type 0 where
+  early : nth l a ≡ some c → a ≢ length l → Snoc l o a c
+  late : a ≡ length l → o ≡ c → Snoc l o a c
+
+snoc-more : {A : Type 0} {l : List A} {o x : A} {a : ℕ} {c : A} → Snoc l o a c → Snoc (x ∷ l) o (suc a) c
+snoc-more (early h n) = early h (omega arith)
+snoc-more (late e h) = late (ap suc e) h
+
+pub nth-snoc : {A : Type 0} (l : List A) (o : A) (a : ℕ) (c : A) → nth (l ++ o ∷ []) a ≡ some c → Snoc l o a c
+nth-snoc [] o zero c h = late refl (Option·some-injective _ _ h)
+nth-snoc [] o (suc a) c h = absurd (Option·none-ne-some _ h)
+nth-snoc (x ∷ l) o zero c h = early h (omega arith)
+nth-snoc (x ∷ l) o (suc a) c h = snoc-more (nth-snoc l o a c h)
+
+-- an entry of a list with one put in
+pub data Put {A : Type 0} (l : List A) (a : ℕ) (x : A) (b : ℕ) (c : A) : Type 0 where
+  here : b ≡ a → x ≡ c → Put l a x b c
+  there : b ≢ a → nth l b ≡ some c → Put l a x b c
+
+put-more : {A : Type 0} {l : List A} {x y : A} {a b : ℕ} {c : A} → Put l a x b c → Put (y ∷ l) (suc a) x (suc b) c
+put-more (here e h) = here (ap suc e) h
+put-more (there n h) = there (omega arith) h
+
+-- cells with the value v in the cell a
+pub record Stored (l : List (Option Val)) (a : ℕ) (v : Val) (r : List (Option Val)) : Type 0 where
+  pub within : a < length l
+  pub long : length r ≡ length l
+  pub puts : (b : ℕ) (c : Option Val) → nth r b ≡ some c → Put l a (some v) b c
+
+stored-here : (x : Option Val) (l : List (Option Val)) (v : Val) (b : ℕ) (c : Option Val) → nth (some v ∷ l) b ≡ some c → Put (x ∷ l) 0 (some v) b c
+stored-here x l v zero c h = here refl (Option·some-injective _ _ h)
+stored-here x l v (suc b) c h = there (omega arith) h
+
+stored-there : (x : Option Val) (l r : List (Option Val)) (a : ℕ) (v : Val) → ((b : ℕ) (c : Option Val) → nth r b ≡ some c → Put l a (some v) b c) →
+    (b : ℕ) (c : Option Val) → nth (x ∷ r) b ≡ some c → Put (x ∷ l) (suc a) (some v) b c
+stored-there x l r a v f zero c h = there (omega arith) h
+stored-there x l r a v f (suc b) c h = put-more (f b c h)
+
+stored-behind : (x : Option Val) {l : List (Option Val)} {a : ℕ} {v : Val} {o : Option (List (Option Val))} {t : Bool} →
+    Asks (Stored l a v) o t → Asks (Stored (x ∷ l) (suc a) v) (behind x o) t
+stored-behind x (asks-yes s) = asks-yes (record {
+  within = let h = s .within in omega (arith, h);
+  long = ap suc (s .long);
+  puts = stored-there x _ _ _ _ (s .puts);
+})
+stored-behind x asks-no = asks-no
+
+asks-store : (l : List (Option Val)) (a : ℕ) (v : Val) → Asks (Stored l a v) (store l a v) (ltb a (length l))
+asks-store [] a v = rw (leb·suc-zero a) asks-no
+asks-store (x ∷ l) zero v =
+    rw (leb·suc-suc 0 (length l), leb·zero (length l)) (asks-yes (record { within = omega arith; long = refl; puts = stored-here x l v }))
+asks-store (x ∷ l) (suc a) v = rw (leb·suc-suc (suc a) (length l)) (stored-behind x (asks-store l a v))
+
+pub asks-stored : (l : List (Option Val)) (a n : ℕ) (v : Val) → length l ≡ n → Asks (Stored l a v) (store l a v) (ltb a n)
+asks-stored l a n v h = rw (← h) (asks-store l a v)
+
+-- ---- the output: the numbers put out, and what was there behind them
+
+length-snoc : (l : List ℤ) (z : ℤ) → length (l ++ z ∷ []) ≡ suc (length l)
+length-snoc l z = let e = length-append l (z ∷ []) in omega (arith, e)
+
+pub one-more : (l old : List ℤ) (z : ℤ) → length l < length old →
+    set (l ++ drop (length l) old) (length l) z ≡ (l ++ z ∷ []) ++ drop (length (l ++ z ∷ [])) old
+one-more l old z h =
+    ap (λ (d : List ℤ). set (l ++ d) (length l) z) (drop-cons old (length l) (pos 0) h) ∙
+    set-append-seam l (getD old (length l) (pos 0)) (drop (suc (length l)) old) z ∙
+    ap (λ (n : ℕ). l ++ z ∷ drop n old) (sym (length-snoc l z)) ∙
+    sym (append-assoc l (z ∷ []) (drop (length (l ++ z ∷ [])) old))
+
+pub length-put : (l : List ℤ) (z : ℤ) (n : ℕ) → length l ≡ n → length (l ++ z ∷ []) ≡ suc n
+length-put l z n h = length-snoc l z ∙ ap suc h
+
+-- ---- tests of counts: what is taken and what is left
+
+pub at-least : (a b : ℕ) → (T (ltb a b) → ⊥) → b ≤ a
+at-least a b h = ⊎-elim (λ l. absurd (h (lt→ltb a b l))) (λ l. l) (below-or-not a b)
+
+pub unit-is : (u k f : ℕ) → u + k ≡ f → (T (ltb u f) → T (ltb 0 k)) × (T (ltb 0 k) → T (ltb u f))
+unit-is u k f h = omega (arith, ltb→lt, lt→ltb)
+
+pub room-is : (n a b f : ℕ) → a ≡ b → (T (leb (n + a) f) → T (leb (n + b) f)) × (T (leb (n + b) f) → T (leb (n + a) f))
+room-is n a b f h = omega (arith, leb→le, le→leb)
+
+pub room-one : (a b f : ℕ) → a ≡ b → (T (leb (1 + a) f) → T (leb (suc b) f)) × (T (leb (suc b) f) → T (leb (1 + a) f))
+room-one a b f h = omega (arith, leb→le, le→leb)

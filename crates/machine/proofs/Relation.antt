@@ -1,0 +1,206 @@
+-- How tables stand for values, environments, states and outcomes of the rules.
+use mathlib.Core.Path.{_≡_}
+use mathlib.Core.List.{List, [], _∷_, _++_}
+use mathlib.Core.Option.{Option, none, some}
+use Prim.Native.Nat.{ℕ, suc, _+_, _*_, _≤_, _<_, min}
+use lib.ListN.{length, drop}
+use mir.Syntax.{w64}
+use mir.Val.{toZ}
+use Rattle.language.specs.Syntax.{Name, ArgP, Expr, ExprP, Def, Stat, Cmds, Block}
+use Rattle.language.specs.Answers.{Stop, stop-number}
+use Rattle.language.specs.Types.{param-names}
+use Rattle.language.specs.Limits.{Limits}
+use Rattle.language.specs.Words.{nameAt}
+use Rattle.language.specs.Rules.{Val, inZ, inF, inFR, inP, inPR, inA, Env, empty, bound, State, stop, no-rule, Outcome, ok, halt, nth, Entered, Level, cmds}
+use Rattle.nodes.specs.declared.Node.{Node}
+use Rattle.nodes.specs.Nodes.{nodeAt}
+use Rattle.nodes.specs.Trees.{Script, place, next, AtParams, AtE, AtA, AtCs, AtD, AtS, AtB}
+use Rattle.machine.specs.declared.Row.{Row}
+use Rattle.machine.specs.declared.Ending.{Ending}
+use Rattle.machine.specs.declared.Ending.the-variants.{Value, NoRule}
+use Rattle.machine.specs.declared.Ending.the-variants as E
+use Rattle.machine.specs.Entries.{number-tag, function-tag, recursive-function-tag, procedure-tag, recursive-procedure-tag, address-tag, unset-tag, most-waiting, most-rows, row, rowAt, binding, bindingAt, nodeOf, envOf}
+use Rattle.machine.specs.State.{Run, Tables, Ret, is}
+use Rattle.machine.specs.Machine.{Evaluators, cmdIn}
+use Rattle.machine.specs.Leaves.{Opened}
+use Rattle.machine.specs.Shown.{boundsOf}
+
+-- a run on a script under limits, with the tables as they were lent
+pub record Stage : Type 0 where
+  pub script : Script
+  pub limits : Limits
+  pub old : Tables
+
+abbrev pub run-of : Stage → Run
+run-of g = record { script = g.script; bounds = boundsOf g.limits }
+
+-- a node of the script, and the name that its text has at a place
+abbrev pub node : Stage → ℕ → Node
+node g i = nodeAt (g.script .tree) i
+
+abbrev pub name-in : Stage → ℕ → Name
+name-in g p = nameAt (g.script .text) p
+
+-- no row of parameters is longer than the values that can wait
+pub record Narrow (g : Script) : Type 0 where
+  pub few : {q i : ℕ} {xs : List ArgP} → AtParams g q xs i → length xs < most-waiting
+
+-- the lent tables are large enough, and rows of parameters narrow
+pub record Roomy (g : Stage) : Type 0 where
+  pub few-bindings : g.limits .bindings ≤ 4096
+  pub few-cells : g.limits .cells ≤ 4096
+  pub bindings-fit : 2 * g.limits .bindings ≤ length (g.old .bindings)
+  pub cells-fit : 2 * g.limits .cells ≤ length (g.old .cells)
+  pub output-fit : g.limits .output ≤ length (g.old .output)
+  pub waiting-fit : 2 * most-rows ≤ length (g.old .waiting)
+  pub narrow : Narrow g.script
+
+-- a table after some writes: what stands from its entry n on is as it was
+pub record Kept (n : ℕ) (old now : List ℕ) : Type 0 where
+  pub long : length now ≡ length old
+  pub beyond : drop n now ≡ drop n old
+
+-- by the first c bindings of the table b: a tag and a word stand for a value, a number for an environment
+pub data Thing : Type 0 where
+  value : Val → (tag word : ℕ) → Thing
+  names : Env → ℕ → Thing
+
+-- the first c bindings are kept
+abbrev pub Old : List ℕ → ℕ → List ℕ → Type 0
+Old b c b′ = (k : ℕ) → k < c → bindingAt b′ k ≡ bindingAt b k
+
+module _ (g : Stage) where
+  pub data Rep (b : List ℕ) : ℕ → Thing → Type 0 where
+    v-num : {c : ℕ} (x : ℕ) → Rep b c (value (inZ (toZ w64 x)) number-tag x)
+    v-fun : {c x i : ℕ} {xs : List ArgP} {e : Expr} {ρ : Env} → AtParams g.script (nodeOf x) xs i → AtE g.script i e → Rep b c (names ρ (envOf x)) →
+        Rep b c (value (inF e (param-names xs) ρ) function-tag x)
+    v-rec : {c x i : ℕ} {xs : List ArgP} {e : Expr} {ρ : Env} → AtParams g.script (next g.script (next g.script (nodeOf x))) xs i → AtE g.script i e →
+        Rep b c (names ρ (envOf x)) → Rep b c (value (inFR e (name-in g (place g.script (nodeOf x))) (param-names xs) ρ) recursive-function-tag x)
+    v-proc : {c x i : ℕ} {xs : List ArgP} {a : Block} {ρ : Env} → AtParams g.script (nodeOf x) xs i → AtB g.script i a → Rep b c (names ρ (envOf x)) →
+        Rep b c (value (inP a (param-names xs) ρ) procedure-tag x)
+    v-proc-rec : {c x i : ℕ} {xs : List ArgP} {a : Block} {ρ : Env} → AtParams g.script (next g.script (nodeOf x)) xs i → AtB g.script i a →
+        Rep b c (names ρ (envOf x)) → Rep b c (value (inPR a (name-in g (place g.script (nodeOf x))) (param-names xs) ρ) recursive-procedure-tag x)
+    v-adr : {c a : ℕ} → Rep b c (value (inA a) address-tag a)
+    e-none : {c : ℕ} → Rep b c (names empty 0)
+    e-bound : {c k p t x l : ℕ} {u : Val} {ρ : Env} → suc k ≤ c → bindingAt b k ≡ binding p t x l → Rep b k (value u t x) → Rep b k (names ρ l) →
+        Rep b c (names (bound (name-in g p) u ρ) (suc k))
+
+  abbrev pub ValR : List ℕ → ℕ → Val → (tag word : ℕ) → Type 0
+  ValR b c u t x = Rep b c (value u t x)
+
+  abbrev pub EnvR : List ℕ → ℕ → Env → ℕ → Type 0
+  EnvR b c ρ n = Rep b c (names ρ n)
+
+  -- an environment by the tables m
+  abbrev pub Named : Env → (env : ℕ) → Tables → Type 0
+  Named ρ env m = EnvR (m .bindings) (m .counts .bindings) ρ env
+
+  -- what is found
+  pub data Found (b : List ℕ) (c : ℕ) : Option Val → Ending → Type 0 where
+    found : {u : Val} {t x : ℕ} → ValR b c u t x → Found b c (some u) (Value t x)
+    lost : Found b c none NoRule
+
+  -- a cell
+  pub data CellR (b : List ℕ) (c : ℕ) : Option Val → Row → Type 0 where
+    c-unset : CellR b c none (row unset-tag 0)
+    c-set : {u : Val} {t x : ℕ} → ValR b c u t x → CellR b c (some u) (row t x)
+
+  -- values that wait from sp on in the table w
+  pub data Waits (b : List ℕ) (c : ℕ) (w : List ℕ) : ℕ → List Val → Type 0 where
+    w-none : {sp : ℕ} → Waits b c w sp []
+    w-more : {sp t x : ℕ} {u : Val} {us : List Val} → rowAt w sp ≡ row t x → ValR b c u t x → Waits b c w (suc sp) us → Waits b c w sp (u ∷ us)
+
+  -- values that wait in the tables m from sp on
+  abbrev pub Wait : (sp : ℕ) → List Val → Tables → Type 0
+  Wait sp us m = Waits (m .bindings) (m .counts .bindings) (m .waiting) sp us
+
+  -- tables stand for a state
+  pub record R (s : State) (m : Tables) : Type 0 where
+    pub units : s .units + m .counts .units ≡ g.limits .fuel
+    pub bindings : s .bindings ≡ m .counts .bindings
+    pub bindings-in : m .counts .bindings ≤ g.limits .bindings
+    pub bindings-kept : Kept (2 * g.limits .bindings) (g.old .bindings) (m .bindings)
+    pub cells : length (s .cells) ≡ m .counts .cells
+    pub cells-in : m .counts .cells ≤ g.limits .cells
+    pub cells-kept : Kept (2 * g.limits .cells) (g.old .cells) (m .cells)
+    pub each : (a : ℕ) (o : Option Val) → nth (s .cells) a ≡ some o → CellR (m .bindings) (m .counts .bindings) o (rowAt (m .cells) a)
+    pub numbers : length (s .numbers) ≡ m .counts .numbers
+    pub numbers-in : m .counts .numbers ≤ g.limits .output
+    pub output : m .output ≡ s .numbers ++ drop (length (s .numbers)) (g.old .output)
+    pub waiting-kept : Kept (2 * most-rows) (g.old .waiting) (m .waiting)
+    pub roomy : Roomy g
+
+  -- what goes on keeps the bindings and what waits below sp, and gives no unit back
+  pub record Grow (sp : ℕ) (m m₁ : Tables) : Type 0 where
+    pub more : m .counts .bindings ≤ m₁ .counts .bindings
+    pub old : Old (m .bindings) (m .counts .bindings) (m₁ .bindings)
+    pub waits : (k : ℕ) → k < sp → rowAt (m₁ .waiting) k ≡ rowAt (m .waiting) k
+    pub fell : m₁ .counts .units ≤ m .counts .units
+
+  -- related outcomes, from m on; P relates what they answer
+  pub data Sim {A : Type 0} (P : A → (t x : ℕ) → Tables → Type 0) (sp : ℕ) (m : Tables) : Outcome A → Ret → Type 0 where
+    goes : {a : A} {s : State} {t x : ℕ} {m₁ : Tables} → P a t x m₁ → R s m₁ → Grow sp m m₁ → Sim P sp m (ok a s) (is (Value t x) m₁)
+    stops : {w : Stop} {p : ℕ} {s : State} {m₁ : Tables} → R s m₁ → Sim P sp m (halt (stop w) p s) (is (E.Stop (stop-number w) p) m₁)
+    no-way : {p : ℕ} {s : State} {m₁ : Tables} → R s m₁ → Sim P sp m (halt no-rule p s) (is NoRule m₁)
+
+  -- an answer that took a unit
+  pub record Spent {A : Type 0} (m : Tables) (P : A → (t x : ℕ) → Tables → Type 0) (a : A) (t x : ℕ) (m₁ : Tables) : Type 0 where
+    pub it : P a t x m₁
+    pub less : m₁ .counts .units < m .counts .units
+
+  -- what answers are: a value, an environment, the environment that was, waiting values (from top on, behind n others), a body and its environment
+  abbrev pub IsVal : Val → (t x : ℕ) → Tables → Type 0
+  IsVal u t x m = ValR (m .bindings) (m .counts .bindings) u t x
+
+  abbrev pub IsEnv : Env → (t x : ℕ) → Tables → Type 0
+  IsEnv ρ t x m = Named ρ x m
+
+  pub record Waiting (top n : ℕ) (us : List Val) (t x : ℕ) (m : Tables) : Type 0 where
+    pub count : x ≡ min (n + length us) most-waiting
+    pub all : n + length us < most-waiting → Wait top us m
+
+  pub record IsEntered {B : Type 0} (At : ℕ → B → Type 0) (c : Entered B) (env i : ℕ) (m : Tables) : Type 0 where
+    pub in-env : Named (c .env) env m
+    pub body-at : At i (c .body)
+
+  -- parameters from q on and values, one by one: the names grow from ρ to ρ′, up to the node i
+  pub data Zip : ℕ → List Val → Env → Env → ℕ → Type 0 where
+    z-none : {q : ℕ} {ρ : Env} → Zip q [] ρ ρ q
+    z-more : {q i : ℕ} {u : Val} {us : List Val} {ρ ρ′ : Env} → Zip (next g.script q) us (bound (name-in g (place g.script q)) u ρ) ρ′ i →
+        Zip q (u ∷ us) ρ ρ′ i
+
+  pub data Fit (q : ℕ) (us : List Val) (ρ : Env) (i n : ℕ) : Option Env → Ending → Type 0 where
+    fit : {ρ′ : Env} {t : ℕ} → Zip q us ρ ρ′ i → n ≡ length us → Fit q us ρ i n (some ρ′) (Value t i)
+    unfit : Fit q us ρ i n none NoRule
+
+  -- bindings c up to n are made, which changes nothing from the entry r on
+  pub record Bound (b : List ℕ) (c n r : ℕ) (ρ′ : Env) (o : Opened) : Type 0 where
+    pub env′ : EnvR (o .bindings) n ρ′ (o .env)
+    pub old : Old b c (o .bindings)
+    pub kept : Kept r b (o .bindings)
+
+  -- where evaluation stands: names, room for what waits, state
+  pub record Here (d : ℕ) (ρ : Env) (env sp : ℕ) (s : State) (m : Tables) : Type 0 where
+    pub names′ : Named ρ env m
+    pub room : sp + d * most-waiting ≤ most-rows
+    pub st : R s m
+
+  -- the rules and the machine agree with d levels left
+  pub record Adeq (d : ℕ) (l : Level) (S : Evaluators) : Type 0 where
+    pub onE : {i : ℕ} {e : Expr} {ρ : Env} {env sp : ℕ} {s : State} {m : Tables} → AtE g.script i e → Here d ρ env sp s m →
+        Sim (Spent m IsVal) sp m (l .expr e ρ s) (S .expr env sp i m)
+    pub onA : {i : ℕ} {a : ExprP} {ρ : Env} {env sp : ℕ} {s : State} {m : Tables} → AtA g.script i a → Here d ρ env sp s m →
+        Sim (Spent m IsVal) sp m (l .arg a ρ s) (S .expr env sp i m)
+    pub onC : {i : ℕ} {cs : Cmds} {ρ : Env} {env sp : ℕ} {s : State} {m : Tables} → AtCs g.script i cs → Here d ρ env sp s m →
+        Sim (λ u t x m₁. Unit {0}) sp m (cmds l cs ρ s) (S .block env sp i m)
+
+abbrev pub IsDone : ℕ → Unit {0} → (t x : ℕ) → Tables → Type 0
+IsDone env u t x m = x ≡ env
+
+module _ (g : Stage) where
+  -- commands with d levels left
+  pub record AdeqC (d : ℕ) (l : Level) (S : Evaluators) : Type 0 where
+    pub onD : {i : ℕ} {c : Def} {ρ : Env} {env sp : ℕ} {s : State} {m : Tables} → AtD g.script i c → Here g d ρ env sp s m →
+        Sim g (Spent g m (IsEnv g)) sp m (l .def c ρ s) (cmdIn (run-of g) (node g i .kind) d S env sp (node g i) m)
+    pub onS : {i : ℕ} {c : Stat} {ρ : Env} {env sp : ℕ} {s : State} {m : Tables} → AtS g.script i c → Here g d ρ env sp s m →
+        Sim g (Spent g m (IsDone env)) sp m (l .stat c ρ s) (cmdIn (run-of g) (node g i .kind) d S env sp (node g i) m)

@@ -1,0 +1,88 @@
+-- The entries of the evaluator's tables: values, cells, waiting values and bindings, two words each, behind one pair of functions each.
+use Prim.Native.Nat.{ℕ, _+_, _*_, _/_, _%_}
+use mathlib.Core.Bool.{Bool, true, false}
+use mathlib.Core.List.{List}
+use lib.Dec.{ltb}
+use lib.ListN.{getD, set}
+use Rattle.machine.specs.declared.Row.{Row}
+use Rattle.machine.specs.declared.Binding.{Binding}
+
+-- a test, whose two sides wait
+unfoldable pub pick : {A : Type 0} → Bool → (Unit {0} → A) → (Unit {0} → A) → A
+pick true a b = a tt
+pick false a b = b tt
+
+-- what a value is: a number, a function, a function that knows its own name, a procedure, such a procedure, the address of a cell
+abbrev pub number-tag : ℕ
+number-tag = 0
+
+abbrev pub function-tag : ℕ
+function-tag = 1
+
+abbrev pub recursive-function-tag : ℕ
+recursive-function-tag = 2
+
+abbrev pub procedure-tag : ℕ
+procedure-tag = 3
+
+abbrev pub recursive-procedure-tag : ℕ
+recursive-procedure-tag = 4
+
+abbrev pub address-tag : ℕ
+address-tag = 5
+
+-- a cell that is not set
+abbrev pub unset-tag : ℕ
+unset-tag = 6
+
+-- answers that are no values: what is done, with the environment or the count after it; and a round of WHILE that asks for one more
+abbrev pub done-tag : ℕ
+done-tag = 7
+
+abbrev pub again-tag : ℕ
+again-tag = 8
+
+-- so many arguments of a call wait; a call with this many or more fits no parameters, since a text of 4,096 words has no room for so many
+abbrev pub most-waiting : ℕ
+most-waiting = 1024
+
+-- no table has more rows: this many values may wait, of 200 calls within each other
+abbrev pub most-rows : ℕ
+most-rows = 204800
+
+abbrev pub row : (tag word : ℕ) → Row
+row t x = record { tag = t; word = x }
+
+-- the row k of a table, and all zeros past its end
+unfoldable pub rowAt : List ℕ → ℕ → Row
+rowAt l k = pick (ltb k most-rows) (λ _. row (getD l (2 * k) 0) (getD l (2 * k + 1) 0)) λ _. row 0 0
+
+unfoldable pub putRow : List ℕ → ℕ → (tag word : ℕ) → List ℕ
+putRow l k t x = pick (ltb k most-rows) (λ _. set (set l (2 * k) t) (2 * k + 1) x) λ _. l
+
+abbrev pub binding : (place tag word link : ℕ) → Binding
+binding p t x l = record { place = p; tag = t; word = x; link = l }
+
+-- a binding's first word: tag, place and link, 16 bits each
+abbrev pub headOf : (place tag link : ℕ) → ℕ
+headOf p t l = (t % 65536 * 65536 + p % 65536) * 65536 + l % 65536
+
+abbrev pub bindingOf : Row → Binding
+bindingOf r = binding (r .tag / 65536 % 65536) (r .tag / 4294967296) (r .word) (r .tag % 65536)
+
+-- the binding k of a table
+unfoldable pub bindingAt : List ℕ → ℕ → Binding
+bindingAt l k = bindingOf (rowAt l k)
+
+unfoldable pub putBinding : List ℕ → ℕ → Binding → List ℕ
+putBinding l k b = putRow l k (headOf (b .place) (b .tag) (b .link)) (b .word)
+
+-- a closure's word: a node and the environment of its definition, 16 bits each. The node is its first parameter, or its name where it knows that
+unfoldable pub closureWord : (node env : ℕ) → ℕ
+closureWord i env = i % 65536 * 65536 + env % 65536
+
+unfoldable pub nodeOf : ℕ → ℕ
+nodeOf x = x / 65536
+
+unfoldable pub envOf : ℕ → ℕ
+envOf x = x % 65536

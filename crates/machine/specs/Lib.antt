@@ -1,0 +1,5 @@
+pub mod Entries
+pub mod State
+pub mod Leaves
+pub mod Machine
+pub mod Shown

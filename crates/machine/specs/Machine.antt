@@ -1,0 +1,242 @@
+-- The evaluator over the tree table and the lent tables: what the code computes. Expressions, blocks and commands call on each other through `Evaluators`.
+use Prim.Native.Nat.{ℕ, zero, suc}
+use lib.Dec.{eqb, ltb}
+use mir.Syntax.{w64}
+use mir.Val.{toZ}
+use Rattle.nodes.specs.declared.Node.{Node}
+use Rattle.nodes.specs.Nodes.{nodeAt}
+use Rattle.machine.specs.declared.Ending.the-variants.{Value, Stop, NoRule}
+use Rattle.machine.specs.Entries.{pick, number-tag, function-tag, recursive-function-tag, procedure-tag, recursive-procedure-tag, done-tag, again-tag, most-waiting, most-rows, closureWord}
+use Rattle.machine.specs.State.{Run, Tables, Ret, is, andThen, store, putOut, push, guard}
+use Rattle.machine.specs.Leaves.{meaningAt, boundTo, addressOf, nameValue, numeralAt, operate, openFunction, openProcedure, define, defineCell}
+
+-- expressions (and addresses) and blocks with some levels left: under an environment, with values waiting below sp, at a node
+pub record Evaluators : Type 0 where
+  pub expr : (env sp i : ℕ) → Tables → Ret
+  pub block : (env sp i : ℕ) → Tables → Ret
+
+-- a number that is 1 or 0 is asked for
+unfoldable pub onBit : (tag word : ℕ) → Tables → (one zero : Unit {0} → Ret) → Ret
+onBit t x m a b = pick (eqb t number-tag) (λ _. pick (eqb x 0) b λ _. pick (eqb x 1) a λ _. is NoRule m) λ _. is NoRule m
+
+module _ (g : Run) where
+  -- the arguments from the node i on, n of them waiting, the next as the row top: the answer is how many wait. What more there are is evaluated and not kept
+  unfoldable pub args : ℕ → Evaluators → (env top n i : ℕ) → Tables → Ret
+  args zero S env top n i m = is NoRule m
+  args (suc k) S env top n i m =
+      pick (eqb i 0) (λ _. is (Value done-tag n) m) λ _.
+      andThen (S .expr env top i m) λ t x m₁.
+      pick (ltb n most-waiting) (λ _.
+      pick (ltb top most-rows) (λ _. args k S env (suc top) (suc n) (nodeAt g.script.tree i .next) (push top t x m₁)) λ _. is NoRule m₁)
+      λ _. args k S env top n (nodeAt g.script.tree i .next) m₁
+
+  -- all arguments from the node i on
+  unfoldable pub allArgs : Evaluators → (env sp i : ℕ) → Tables → Ret
+  allArgs S env sp i m = args (suc (m .counts .units)) S env sp 0 i m
+
+  -- ---- expressions
+
+  unfoldable pub ifE : Evaluators → (env sp : ℕ) → Node → Tables → Ret
+  ifE S env sp n m =
+      andThen (S .expr env sp (n .child) m) λ t x m₁.
+      let i = nodeAt g.script.tree (n .child) .next in
+      onBit t x m₁ (λ _. S .expr env sp i m₁) λ _. S .expr env sp (nodeAt g.script.tree i .next) m₁
+
+  unfoldable pub andE : Evaluators → (env sp : ℕ) → Node → Tables → Ret
+  andE S env sp n m =
+      andThen (S .expr env sp (n .child) m) λ t x m₁.
+      onBit t x m₁ (λ _. S .expr env sp (nodeAt g.script.tree (n .child) .next) m₁) λ _. is (Value number-tag 0) m₁
+
+  unfoldable pub orE : Evaluators → (env sp : ℕ) → Node → Tables → Ret
+  orE S env sp n m =
+      andThen (S .expr env sp (n .child) m) λ t x m₁.
+      onBit t x m₁ (λ _. is (Value number-tag 1) m₁) λ _. S .expr env sp (nodeAt g.script.tree (n .child) .next) m₁
+
+  -- an operator o applied
+  unfoldable pub operatorE : (o : ℕ) → Evaluators → (env sp : ℕ) → Node → Tables → Ret
+  operatorE o S env sp n m =
+      andThen (allArgs S env sp (nodeAt g.script.tree (n .child) .next) m) λ _ k m₁. is (operate o (n .place) k sp (m₁ .waiting)) m₁
+
+  -- a function applied: head, arguments, bindings, body
+  unfoldable pub callE : Evaluators → (env sp : ℕ) → Node → Tables → Ret
+  callE S env sp n m =
+      andThen (S .expr env sp (n .child) m) λ t x m₁.
+      andThen (allArgs S env sp (nodeAt g.script.tree (n .child) .next) m₁) λ _ k m₂.
+      andThen (openFunction g (n .place) k sp t x m₂) λ env₁ i m₃.
+      S .expr env₁ sp i m₃
+
+  -- the operator that the node i is; 0: none
+  unfoldable pub operatorAt : ℕ → ℕ
+  operatorAt i = pick (eqb (nodeAt g.script.tree i .kind) 19) (λ _. meaningAt g.script.text (nodeAt g.script.tree i .place)) λ _. 0
+
+  -- an application, by what its head is among the nine names
+  unfoldable pub applyE : (o : ℕ) → Evaluators → (env sp : ℕ) → Node → Tables → Ret
+  applyE o S env sp n m = pick (ltb o 3) (λ _. callE S env sp n m) λ _. operatorE o S env sp n m
+
+  -- by the kind k of the node n
+  unfoldable pub exprBy : (k : ℕ) → Evaluators → (env sp : ℕ) → Node → Tables → Ret
+  exprBy k S env sp n m =
+      pick (eqb k 18) (λ _. is (numeralAt g.script.text (n .place)) m) λ _.
+      pick (eqb k 19) (λ _. is (nameValue g.script.text (m .bindings) (m .cells) (n .place) (m .counts .bindings) (m .counts .cells) env) m) λ _.
+      pick (eqb k 20) (λ _. ifE S env sp n m) λ _.
+      pick (eqb k 21) (λ _. andE S env sp n m) λ _.
+      pick (eqb k 22) (λ _. orE S env sp n m) λ _.
+      pick (eqb k 23) (λ _. applyE (operatorAt (n .child)) S env sp n m) λ _.
+      pick (eqb k 24) (λ _. is (Value function-tag (closureWord (n .child) env)) m) λ _.
+      pick (eqb k 25) (λ _. is (addressOf g.script.text (m .bindings) (nodeAt g.script.tree (n .child) .place) (m .counts .bindings) env) m) λ _.
+      is NoRule m
+
+  -- ---- commands: the answer is the environment after them
+
+  unfoldable pub constC : Evaluators → (env sp : ℕ) → Node → Tables → Ret
+  constC S env sp n m =
+      andThen (S .expr env sp (nodeAt g.script.tree (nodeAt g.script.tree (n .child) .next) .next) m) λ t x m₁.
+      define g (n .place) (nodeAt g.script.tree (n .child) .place) t x env m₁
+
+  unfoldable pub echoC : Evaluators → (env sp : ℕ) → Node → Tables → Ret
+  echoC S env sp n m =
+      andThen (S .expr env sp (n .child) m) λ t x m₁.
+      pick (eqb t number-tag) (λ _.
+      pick (ltb (m₁ .counts .numbers) (g.bounds .output)) (λ _. is (Value done-tag env) (putOut (toZ w64 x) m₁)) λ _. is (Stop 24 (n .place)) m₁)
+      λ _. is NoRule m₁
+
+  unfoldable pub setC : Evaluators → (env sp : ℕ) → Node → Tables → Ret
+  setC S env sp n m =
+      andThen (is (addressOf g.script.text (m .bindings) (nodeAt g.script.tree (n .child) .place) (m .counts .bindings) env) m) λ _ a m.
+      andThen (S .expr env sp (nodeAt g.script.tree (n .child) .next) m) λ t x m₁.
+      pick (ltb a (m₁ .counts .cells)) (λ _. is (Value done-tag env) (store a t x m₁)) λ _. is NoRule m₁
+
+  -- a block within a command leaves the environment as it was
+  unfoldable pub blockC : Evaluators → (env within sp i : ℕ) → Tables → Ret
+  blockC S env ρ sp i m = andThen (S .block ρ sp (nodeAt g.script.tree i .child) m) λ _ _ m₁. is (Value done-tag env) m₁
+
+  unfoldable pub ifC : Evaluators → (env sp : ℕ) → Node → Tables → Ret
+  ifC S env sp n m =
+      andThen (S .expr env sp (n .child) m) λ t x m₁.
+      let i = nodeAt g.script.tree (n .child) .next in
+      onBit t x m₁ (λ _. blockC S env env sp i m₁) λ _. blockC S env env sp (nodeAt g.script.tree i .next) m₁
+
+  -- a procedure called: name, arguments, bindings, block
+  unfoldable pub callC : Evaluators → (env sp : ℕ) → Node → Tables → Ret
+  callC S env sp n m =
+      andThen (is (boundTo g.script.text (m .bindings) (nodeAt g.script.tree (n .child) .place) (m .counts .bindings) env) m) λ t x m.
+      andThen (allArgs S env sp (nodeAt g.script.tree (n .child) .next) m) λ _ k m₁.
+      andThen (openProcedure g (n .place) k sp t x m₁) λ env₁ i m₂.
+      blockC S env env₁ sp i m₂
+
+  -- one round of the WHILE n, which is entered; `again-tag` asks for one more
+  unfoldable pub round : ℕ → Evaluators → (env sp : ℕ) → Node → Tables → Ret
+  round d S env sp n m =
+      guard d (n .place) m λ m₀.
+      andThen (S .expr env sp (n .child) m₀) λ t x m₁.
+      onBit t x m₁
+      (λ _. andThen (S .block env sp (nodeAt g.script.tree (nodeAt g.script.tree (n .child) .next) .child) m₁) λ _ _ m₂. is (Value again-tag env) m₂)
+      λ _. is (Value done-tag env) m₁
+
+  unfoldable pub rounds : ℕ → ℕ → Evaluators → (env sp : ℕ) → Node → Tables → Ret
+  rounds zero d S env sp n m = is NoRule m
+  rounds (suc k) d S env sp n m = andThen (round d S env sp n m) λ t x m₁. pick (eqb t again-tag) (λ _. rounds k d S env sp n m₁) λ _. is (Value t x) m₁
+
+  -- by the kind k of the node n
+  unfoldable pub cmdBy : (k : ℕ) → Evaluators → (env sp : ℕ) → Node → Tables → Ret
+  cmdBy k S env sp n m =
+      let x = nodeAt g.script.tree (n .child) in
+      pick (eqb k 2) (λ _. constC S env sp n m) λ _.
+      pick (eqb k 3) (λ _. define g (n .place) (x .place) function-tag (closureWord (nodeAt g.script.tree (x .next) .next) env) env m) λ _.
+      pick (eqb k 4) (λ _. define g (n .place) (x .place) recursive-function-tag (closureWord (n .child) env) env m) λ _.
+      pick (eqb k 5) (λ _. defineCell g (n .place) (x .place) env m) λ _.
+      pick (eqb k 6) (λ _. define g (n .place) (x .place) procedure-tag (closureWord (x .next) env) env m) λ _.
+      pick (eqb k 7) (λ _. define g (n .place) (x .place) recursive-procedure-tag (closureWord (n .child) env) env m) λ _.
+      pick (eqb k 8) (λ _. echoC S env sp n m) λ _.
+      pick (eqb k 9) (λ _. setC S env sp n m) λ _.
+      pick (eqb k 10) (λ _. ifC S env sp n m) λ _.
+      pick (eqb k 12) (λ _. callC S env sp n m) λ _.
+      is NoRule m
+
+  -- a command of kind k with d levels left: each round of a WHILE is entered, any other command is entered once
+  unfoldable pub cmdIn : (k d : ℕ) → Evaluators → (env sp : ℕ) → Node → Tables → Ret
+  cmdIn k d S env sp n m = pick (eqb k 11) (λ _. rounds (suc (m .counts .units)) d S env sp n m) λ _. guard d (n .place) m λ m₁. cmdBy k S env sp n m₁
+
+  -- the commands from the node i on
+  unfoldable pub cmds : (k d : ℕ) → Evaluators → (env sp i : ℕ) → Tables → Ret
+  cmds zero d S env sp i m = is NoRule m
+  cmds (suc k) d S env sp i m =
+      pick (eqb i 0) (λ _. is (Value done-tag env) m) λ _.
+      andThen (cmdIn (nodeAt g.script.tree i .kind) d S env sp (nodeAt g.script.tree i) m) λ _ env₁ m₁. cmds k d S env₁ sp (nodeAt g.script.tree i .next) m₁
+
+  -- ---- levels
+
+  -- d levels left, with S one level further down
+  unfoldable pub step : ℕ → Evaluators → Evaluators
+  step d S =
+      record {
+        expr = λ env sp i m. guard d (nodeAt g.script.tree i .place) m λ m₁. exprBy (nodeAt g.script.tree i .kind) S env sp (nodeAt g.script.tree i) m₁;
+        block = λ env sp i m. cmds (suc (m .counts .units)) d S env sp i m;
+      }
+
+  -- below the last level
+  unfoldable pub bottom : Evaluators
+  bottom = record { expr = λ env sp i m. is NoRule m; block = λ env sp i m. is NoRule m }
+
+  unfoldable pub evaluators : ℕ → Evaluators
+  evaluators zero = step zero bottom
+  evaluators (suc d) = step (suc d) (evaluators d)
+
+  -- what is entered at d levels left has below it
+  unfoldable pub below : ℕ → Evaluators
+  below zero = bottom
+  below (suc d) = evaluators d
+
+  -- each by a name of its own, at d levels left
+  unfoldable pub exprAt : (d env sp i : ℕ) → Tables → Ret
+  exprAt d env sp i m = evaluators d .expr env sp i m
+
+  unfoldable pub blockAt : (d env sp i : ℕ) → Tables → Ret
+  blockAt d env sp i m = evaluators d .block env sp i m
+
+  abbrev pub level : ℕ → Evaluators
+  level d = record { expr = exprAt d; block = blockAt d }
+
+  -- a command and the rounds of a WHILE that are entered at d levels left
+  unfoldable pub cmdAt : (d env sp : ℕ) → Node → Tables → Ret
+  cmdAt d env sp n m = cmdIn (n .kind) d (below d) env sp n m
+
+  unfoldable pub whileAt : (d env sp : ℕ) → Node → Tables → Ret
+  whileAt d env sp n m = rounds (suc (m .counts .units)) d (below d) env sp n m
+
+  unfoldable pub roundAt : (d env sp : ℕ) → Node → Tables → Ret
+  roundAt d env sp n m = round d (below d) env sp n m
+
+  -- what is entered already, with d levels left below it
+  abbrev pub argsAt : (d env sp i : ℕ) → Tables → Ret
+  argsAt d env sp i m = allArgs (level d) env sp i m
+
+  abbrev pub ifAt : (d env sp : ℕ) → Node → Tables → Ret
+  ifAt d env sp n m = ifE (level d) env sp n m
+
+  abbrev pub andAt : (d env sp : ℕ) → Node → Tables → Ret
+  andAt d env sp n m = andE (level d) env sp n m
+
+  abbrev pub orAt : (d env sp : ℕ) → Node → Tables → Ret
+  orAt d env sp n m = orE (level d) env sp n m
+
+  abbrev pub operatorIn : (o d env sp : ℕ) → Node → Tables → Ret
+  operatorIn o d env sp n m = operatorE o (level d) env sp n m
+
+  abbrev pub callAt : (d env sp : ℕ) → Node → Tables → Ret
+  callAt d env sp n m = callE (level d) env sp n m
+
+  abbrev pub constAt : (d env sp : ℕ) → Node → Tables → Ret
+  constAt d env sp n m = constC (level d) env sp n m
+
+  abbrev pub echoAt : (d env sp : ℕ) → Node → Tables → Ret
+  echoAt d env sp n m = echoC (level d) env sp n m
+
+  abbrev pub setAt : (d env sp : ℕ) → Node → Tables → Ret
+  setAt d env sp n m = setC (level d) env sp n m
+
+  abbrev pub ifStatAt : (d env sp : ℕ) → Node → Tables → Ret
+  ifStatAt d env sp n m = ifC (level d) env sp n m
+
+  abbrev pub callStatAt : (d env sp : ℕ) → Node → Tables → Ret
+  callStatAt d env sp n m = callC (level d) env sp n m

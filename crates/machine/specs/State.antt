@@ -1,0 +1,120 @@
+-- The evaluator's state, its answers, and how steps are put together.
+use Prim.Native.Nat.{ℕ, suc, _+_, _-_}
+use mathlib.Core.List.{List}
+use lib.Dec.{ltb}
+use lib.IntN.{ℤ}
+use lib.ListN.{set}
+use Rattle.nodes.specs.Trees.{Script}
+use Rattle.machine.specs.declared.Counts.{Counts}
+use Rattle.machine.specs.declared.Bounds.{Bounds}
+use Rattle.machine.specs.declared.Evaluated.{Evaluated}
+use Rattle.machine.specs.declared.Ending.{Ending}
+use Rattle.machine.specs.declared.Ending.the-variants.{Value, Stop, NoRule}
+use Rattle.machine.specs.Entries.{pick, unset-tag, putRow}
+
+-- what a run does not change: the tree words, the text that their places point into, and how many bindings, cells and numbers there may be
+pub record Run : Type 0 where
+  pub script : Script
+  pub bounds : Bounds
+
+abbrev pub running : (tree text : List ℕ) → Bounds → Run
+running t v b = record { script = record { tree = t; text = v }; bounds = b }
+
+-- the counts and the lent tables
+pub record Tables : Type 0 where
+  pub counts : Counts
+  pub bindings : List ℕ
+  pub cells : List ℕ
+  pub output : List ℤ
+  pub waiting : List ℕ
+
+pub record Ret : Type 0 where
+  pub ending : Ending
+  pub after : Tables
+
+abbrev pub tables : Counts → (bindings cells : List ℕ) → (output : List ℤ) → (waiting : List ℕ) → Tables
+tables n b c o w = record { counts = n; bindings = b; cells = c; output = o; waiting = w }
+
+-- what a function of the code answers, with the tables that it leaves
+abbrev pub ret : Evaluated → (bindings cells : List ℕ) → (output : List ℤ) → (waiting : List ℕ) → Ret
+ret r b c o w = record { ending = r .ending; after = tables (r .counts) b c o w }
+
+abbrev pub is : Ending → Tables → Ret
+is e m = record { ending = e; after = m }
+
+-- 1 for a value: what is entered and comes to a value has taken a unit
+abbrev pub valued : Ending → ℕ
+valued (Value t x) = 1
+valued (Stop n p) = 0
+valued NoRule = 0
+
+abbrev pub onValue : Ending → Tables → (ℕ → ℕ → Tables → Ret) → Ret
+onValue (Value t x) m k = k t x m
+onValue (Stop n p) m k = is (Stop n p) m
+onValue NoRule m k = is NoRule m
+
+-- r, and where it is a value what follows
+unfoldable pub andThen : Ret → (ℕ → ℕ → Tables → Ret) → Ret
+andThen r k = onValue (r .ending) (r .after) k
+
+-- the same for an answer that changes no table
+abbrev pub ifValue : Ending → (ℕ → ℕ → Ending) → Ending
+ifValue (Value t x) k = k t x
+ifValue (Stop n p) k = Stop n p
+ifValue NoRule k = NoRule
+
+-- ---- the state's changes
+
+abbrev pub spend : Tables → Tables
+spend m =
+    record {
+      counts = record { units = m .counts .units - 1; bindings = m .counts .bindings; cells = m .counts .cells; numbers = m .counts .numbers };
+      bindings = m .bindings;
+      cells = m .cells;
+      output = m .output;
+      waiting = m .waiting;
+    }
+
+-- n bindings more, in the table b
+abbrev pub bind : ℕ → List ℕ → Tables → Tables
+bind n b m =
+    record {
+      counts = record { units = m .counts .units; bindings = n + m .counts .bindings; cells = m .counts .cells; numbers = m .counts .numbers };
+      bindings = b;
+      cells = m .cells;
+      output = m .output;
+      waiting = m .waiting;
+    }
+
+-- one cell more, which is not set
+abbrev pub newCell : Tables → Tables
+newCell m =
+    record {
+      counts = record { units = m .counts .units; bindings = m .counts .bindings; cells = suc (m .counts .cells); numbers = m .counts .numbers };
+      bindings = m .bindings;
+      cells = putRow (m .cells) (m .counts .cells) unset-tag 0;
+      output = m .output;
+      waiting = m .waiting;
+    }
+
+abbrev pub store : (cell tag word : ℕ) → Tables → Tables
+store a t x m = record { counts = m .counts; bindings = m .bindings; cells = putRow (m .cells) a t x; output = m .output; waiting = m .waiting }
+
+-- one number more goes out
+abbrev pub putOut : ℤ → Tables → Tables
+putOut z m =
+    record {
+      counts = record { units = m .counts .units; bindings = m .counts .bindings; cells = m .counts .cells; numbers = suc (m .counts .numbers) };
+      bindings = m .bindings;
+      cells = m .cells;
+      output = set (m .output) (m .counts .numbers) z;
+      waiting = m .waiting;
+    }
+
+-- a value waits as the row k
+abbrev pub push : (k tag word : ℕ) → Tables → Tables
+push k t x m = record { counts = m .counts; bindings = m .bindings; cells = m .cells; output = m .output; waiting = putRow (m .waiting) k t x }
+
+-- an entry at place p with d levels left: FUEL, then a unit is taken, then DEPTH
+unfoldable pub guard : (d p : ℕ) → Tables → (Tables → Ret) → Ret
+guard d p m k = pick (ltb 0 (m .counts .units)) (λ _. pick (ltb 0 d) (λ _. k (spend m)) λ _. is (Stop 21 p) (spend m)) λ _. is (Stop 20 p) m

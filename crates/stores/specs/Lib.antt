@@ -1,0 +1,1 @@
+-- The crate's definitions: none of its own.
