@@ -1,0 +1,10 @@
+pub mod Tables
+pub mod Stacks
+pub mod Loops
+pub mod Numbered
+pub mod Trees
+pub mod Simulated
+pub mod Answered
+pub mod Scanned
+pub mod Entries
+pub mod Lefts

@@ -1,0 +1,25 @@
+use mathlib.Core.Path.{refl}
+use borrow.Author.Tests.{eq-eqb, ne-eqb}
+use Rattle.reading.specs.Steps.{level-opened}
+use borrow.Author.Needs.{needs}
+use Rattle.reading.proofs.stack.level_opened.Statement.{statement}
+use Rattle.reading.proofs.stack.level_opened.Tie as tie
+use Rattle.reading.proofs.stack.level_opened.Reads as reads
+use Rattle.reading.proofs.stack.level_opened.Lts as lts
+
+-- src/stack.rt:15:16
+add-result : tie.Need-add-result
+add-result c = search needs
+
+-- src/stack.rt:15:9
+returns : tie.Need-returns
+unfolding level-opened
+returns c = rw (eq-eqb _ 2 (c .if1 .taken)) refl
+
+-- src/stack.rt:11:1
+returns-2 : tie.Need-returns-2
+unfolding level-opened
+returns-2 c = rw (ne-eqb _ 2 (c .if1 .left)) refl
+
+pub level-opened-spec : {M : Type 1} → statement M
+level-opened-spec = tie.close (tie.spec add-result returns returns-2)

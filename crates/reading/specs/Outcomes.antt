@@ -1,0 +1,42 @@
+-- What the inner functions answer, with the tables that they leave.
+use mathlib.Core.List.{List, _++_}
+use Prim.Native.Nat.{ℕ, _-_}
+use lib.ListN.{length, drop, replicate}
+use Rattle.language.specs.Syntax.{Block}
+use Rattle.language.specs.Answers.{Result, fine, refuse, refusal-number}
+use Rattle.language.specs.Table.{table}
+use Rattle.limits.specs.Cleared.{zeroed}
+use Rattle.reading.specs.declared.Outcome.{Outcome}
+use Rattle.reading.specs.declared.Outcome.the-variants.{Tree, Refused}
+use Rattle.reading.specs.declared.scan.Scan.{Scan}
+use Rattle.reading.specs.declared.scan.Scan.the-variants as scan
+use Rattle.reading.specs.Steps.{Ended, whole, halted}
+
+-- the grammar's loop: the tree, or a refusal, after which the table says nothing
+abbrev pub ending : Outcome → List ℕ → Ended
+ending (Tree n) tree = whole tree n
+ending (Refused number place) tree = halted number place
+
+-- the loop over the words
+abbrev pub scan-ending : Scan → List ℕ → Ended
+scan-ending (scan.Words n) table = whole table n
+scan-ending (scan.Refused number place) table = halted number place
+
+-- the answer to a text, with the tree in the table l
+abbrev pub told : List ℕ → Result Block → Ended
+told l (fine b) = whole (table b ++ drop (length (table b)) l) (length (table b))
+told l (refuse r p) = halted (refusal-number r) p
+
+-- a table that is cleared
+abbrev pub zeros : List ℕ → List ℕ
+zeros l = replicate (length l) 0
+
+-- a tree table with the answer to a text: the tree and zeros behind it, or zeros
+abbrev pub filled : List ℕ → Result Block → List ℕ
+filled l (fine b) = table b ++ replicate (length l - length (table b)) 0
+filled l (refuse r p) = zeros l
+
+-- the tree table, cleared after a refusal
+abbrev pub kept : Outcome → List ℕ → List ℕ
+kept (Tree n) tree = tree
+kept (Refused number place) tree = zeroed 0 4096 tree
