@@ -56,7 +56,8 @@ follows (x ∷ ts) (ent X q u ∷ s) t f = go (pick (tag x) (rules X)) (λ s′ 
 same-nodes : {t t′ : List Node} {o o′ : List ℕ} → through t o ≡ through t′ o′ → t ≡ t′
 same-nodes e = cc
 
-told-nodes : (l : List ℕ) (b : Block) (t : List Node) → t ≡ enc (shapeBlock b Forest.none) 0 → whole (map wordOf t ++ drop (length t) l) (length t) ≡ told l (fine b)
+told-nodes : (l : List ℕ) (b : Block) (t : List Node) → t ≡ enc (shapeBlock b Forest.none) 0
+    → whole (map wordOf t ++ drop (length t) l) (length t) ≡ told l (fine b)
 unfolding table
 told-nodes l b t e = rw (← e, length-map t wordOf) refl
 
@@ -83,6 +84,7 @@ zero-fits = omega arith
 pub answered : (s l : List ℕ) (ts : List Word) → length s ≤ 65536 → wordsOf s ≡ fine ts → length ts ≤ most → most ≤ length l
     → run (length s) (map word-entry ts) (map entry-word start) l 0 ≡ told l (read s)
 answered s l ts hs e h k =
-    simulated s l ts start [] (placed s ts hs (words-stand s ts e)) (stacked-more zero-fits zero-fits (omega arith) stacked-none) fit-none (omega arith) (omega arith)
+    simulated s l ts start [] (placed s ts hs (words-stand s ts e))
+    (stacked-more zero-fits zero-fits (omega arith) stacked-none) fit-none (omega arith) (omega arith)
     ∙ spoken-told s l ts (bounded ts start []) (follows ts start [] (λ z. z))
     ∙ ap (told l) (sym (bounded-answer s ts e h))

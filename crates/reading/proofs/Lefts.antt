@@ -18,15 +18,17 @@ use Rattle.language.proofs.reading.Answer.{answers}
 use Rattle.limits.specs.Cleared
 use Rattle.reading.specs.declared.Outcome.{Outcome}
 use Rattle.reading.specs.declared.Outcome.the-variants.{Tree, Refused}
-use Rattle.reading.specs.Codes.{word-entry, entry-word}
+use Rattle.reading.specs.declared.scan.Scan.{Scan}
+use Rattle.reading.specs.declared.scan.Scan.the-variants as scan
+use Rattle.reading.specs.Codes.{entry-word}
 use Rattle.reading.specs.Steps.{run, Ended, whole, halted}
 use Rattle.reading.specs.Scanning.{scanned}
-use Rattle.reading.specs.Outcomes.{ending, told, zeros, filled, kept}
+use Rattle.reading.specs.Outcomes.{ending, scan-ending, told, zeros, filled, kept}
 use Rattle.reading.specs.Promise.{Read, too-long, too-small, word-entries, stack-entries, working, outcome-of, left}
 use Rattle.reading.specs.Promise as Promise
 use Rattle.reading.proofs.Stacks.{drop-set}
 use Rattle.reading.proofs.Answered.{answered}
-use Rattle.reading.proofs.Scanned.{scan-whole}
+use Rattle.reading.proofs.Scanned.{scan-whole, scan-refused}
 
 -- ---- the stack at the start: the program's entry at its end
 bottom : (s : List ℕ) (n : ℕ) → length s ≡ suc n → drop n (set s n 0) ≡ map entry-word start
@@ -34,17 +36,20 @@ bottom s n h =
     let none : drop (suc n) s ≡ [] = drop-of-length-le s {i = suc n} (omega arith) in
     drop-set s n 0 (omega arith) ∙ ap (λ (l : List ℕ). 0 ∷ l) none
 
--- the words in the table, and then the tree
-pub parsed : (text words words′ stack tree : List ℕ) (n size : ℕ) → length text ≤ 65536 → length words ≡ most → length stack ≡ suc size → length tree ≡ most
-    → scanned (wordsOf text) words 0 0 ≡ whole words′ n
-    → run (length text) (take n words′) (drop size (set stack size 0)) tree 0 ≡ told tree (read text)
-parsed text words words′ stack tree n size ht hw hs hl e =
-    let w = scan-whole text words hw words′ n e in
-    rw (w .4, bottom stack size hs) (answered text tree (w .0) ht (w .1) (w .3) (omega arith))
+-- the loop over the words found n of them, or a refusal: `o` is its answer
+module _ (text words words′ : List ℕ) (o : Scan) (size : length words ≡ most) (ended : scanned (wordsOf text) words 0 0 ≡ scan-ending o words′) where
+  pub few : (n : ℕ) → o ≡ scan.Words n → n ≤ most
+  few n e = let w = scan-whole text words size words′ n (ended ∙ ap (λ (x : Scan). scan-ending x words′) e) in omega (arith, w .2, w .3)
 
--- so many of them as were counted
-pub parsed-few : (text words words′ : List ℕ) (n : ℕ) → length words ≡ most → scanned (wordsOf text) words 0 0 ≡ whole words′ n → n ≤ most
-parsed-few text words words′ n hw e = let w = scan-whole text words hw words′ n e in omega (arith, w .2, w .3)
+  -- their tree, or a refusal
+  pub parsed : (stack tree : List ℕ) (n top : ℕ) → o ≡ scan.Words n → length text ≤ 65536 → length stack ≡ suc top → length tree ≡ most
+      → run (length text) (take n words′) (drop top (set stack top 0)) tree 0 ≡ told tree (read text)
+  parsed stack tree n top e ht hs hl =
+      let w = scan-whole text words size words′ n (ended ∙ ap (λ (x : Scan). scan-ending x words′) e) in
+      rw (w .4, bottom stack top hs) (answered text tree (w .0) ht (w .1) (w .3) (omega arith))
+
+  pub refused : (tree : List ℕ) (c p : ℕ) → o ≡ scan.Refused c p → told tree (read text) ≡ halted c p
+  refused tree c p e = scan-refused text words size tree c p (ended ∙ ap (λ (x : Scan). scan-ending x words′) e)
 
 -- ---- cleared tables
 cleared-all : (l : List ℕ) → Cleared.zeroed 0 (length l) l ≡ zeros l
@@ -83,7 +88,8 @@ outcome-is l (refuse r p) (Tree n) t e = absurd (no-tree (sym e))
 outcome-is l (refuse r p) (Refused c q) t e = same-refusal e
 
 -- the tree table was clear before, and is cleared again after a refusal
-pub tree-is : (l : List ℕ) (v : Result Block) (r : Outcome) (t : List ℕ) → length t ≡ length l → length l ≡ 4096 → told (zeros l) v ≡ ending r t → kept r t ≡ filled l v
+pub tree-is : (l : List ℕ) (v : Result Block) (r : Outcome) (t : List ℕ) → length t ≡ length l → length l ≡ 4096
+    → told (zeros l) v ≡ ending r t → kept r t ≡ filled l v
 tree-is l (fine b) (Tree n) t h k e = same-tree e ∙ ap (λ (z : List ℕ). table b ++ z) (drop-zeros (length (table b)) (length l))
 tree-is l (fine b) (Refused c p) t h k e = absurd (no-tree e)
 tree-is l (refuse r p) (Tree n) t h k e = absurd (no-tree (sym e))
@@ -109,7 +115,8 @@ module _ (text tree words stack : List ℕ) where
   pub no-room-words : tree-words ≤ length tree → length words < word-entries → large-enough (tree-table tree ∷ working words stack) ≡ false
   no-room-words ht hw = rw (le-leb tree-words (length tree) ht, lt-leb word-entries (length words) hw) refl
 
-  pub no-room-stack : tree-words ≤ length tree → word-entries ≤ length words → length stack < stack-entries → large-enough (tree-table tree ∷ working words stack) ≡ false
+  pub no-room-stack : tree-words ≤ length tree → word-entries ≤ length words → length stack < stack-entries
+      → large-enough (tree-table tree ∷ working words stack) ≡ false
   no-room-stack ht hw hs = rw (le-leb tree-words (length tree) ht, le-leb word-entries (length words) hw, lt-leb stack-entries (length stack) hs) refl
 
   -- the promise, from what is left in the parts

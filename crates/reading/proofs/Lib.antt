@@ -8,3 +8,4 @@ pub mod Answered
 pub mod Scanned
 pub mod Entries
 pub mod Lefts
+pub mod Answers

@@ -9,9 +9,13 @@ use native.Mathlib.Omega.{arith}
 use lib.Dec.{eqb, ltb}
 use lib.ListN.{getD}
 use borrow.Author.Tests.{ne-eqb, lt-ltb, ltb-true}
-use Rattle.language.specs.Words.{Mark, kLbr, kRbr, kLpar, kRpar, kSemi, kColon, kComma, kStar, kArrow, kCONST, kFUN, kREC, kVAR, kPROC, kECHO, kSET, kIF, kWHILE, kCALL, kif, kand, kor, kbool, kint, kvar, kadr, Word, mark, number, named, place-word}
-use Rattle.language.proofs.reading.Machine.{code, tag, cal, lev, ctx, Ctx, down, Sym, Act, Push, kid, deep, same, body, back, call, Rule, rule, rules, pick, Entry, ent, opened, places, follow}
-use Rattle.language.proofs.reading.Machine.{sBlock, sBody, sTail, sSemi, sCN, sCT, sExpr, sFunH, sFN, sFT, sFL, sArg1, sArg0, sColon, sType, sVN, sProcH, sPN, sPL, sArgp1, sArgp0, sVarN, sSN, sIC, sIB, sWC, sKN, sK1, sK0, sParen, sParenP, sE3, sE2, sE1, sRP, sArgs1, sArgs0, sAN, sTs1, sTs0, sTR}
+use Rattle.language.specs.Words.{Mark, kLbr, kRbr, kLpar, kRpar, kSemi, kColon, kComma, kStar, kArrow, kCONST, kFUN, kREC, kVAR, kPROC, kECHO, kSET}
+use Rattle.language.specs.Words.{kIF, kWHILE, kCALL, kif, kand, kor, kbool, kint, kvar, kadr, Word, mark, number, named, place-word}
+use Rattle.language.proofs.reading.Machine.{code, tag, cal, lev, ctx, Ctx, down, Sym, Act, Push, kid, deep, same, body, back, call, Rule, rule, rules}
+use Rattle.language.proofs.reading.Machine.{pick, Entry, ent, opened, places, follow}
+use Rattle.language.proofs.reading.Machine.{sBlock, sBody, sTail, sSemi, sCN, sCT, sExpr, sFunH, sFN, sFT, sFL, sArg1, sArg0, sColon, sType, sVN}
+use Rattle.language.proofs.reading.Machine.{sProcH, sPN, sPL, sArgp1, sArgp0, sVarN, sSN, sIC, sIB, sWC, sKN, sK1, sK0, sParen, sParenP, sE3, sE2}
+use Rattle.language.proofs.reading.Machine.{sE1, sRP, sArgs1, sArgs0, sAN, sTs1, sTs0, sTR}
 use Rattle.language.proofs.reading.Machine
 use Rattle.reading.specs.Codes
 use Rattle.reading.specs.Codes.{word-entry, sym-code, syms, rule-word, entry-word}
@@ -230,10 +234,20 @@ module _ (X : Sym) (q : ℕ) (u : Ctx) (hq : q < 65536) (hc : cal u < 65536) (hd
       let at-kind : word-entry x / 65536 ≡ tag x = omega arith in
       let column : (sym-code X * 28 + (tag x - 1)) % 28 + 1 ≡ tag x = omega arith in
       let row : (sym-code X * 28 + (tag x - 1)) / 28 ≡ sym-code X = omega arith in
-      rw (sym-of, at-kind, lt-ltb (sym-code X) 41 (known X .small), ne-eqb (tag x) 0 (λ z. omega arith), lt-ltb (tag x) 29 high, column, row, known X .listed) refl
+      rw (
+        sym-of,
+        at-kind,
+        lt-ltb (sym-code X) 41 (known X .small),
+        ne-eqb (tag x) 0 (λ z. omega arith),
+        lt-ltb (tag x) 29 high,
+        column,
+        row,
+        known X .listed,
+      ) refl
 
   -- the level that it opens
-  pub opened-found : (k : ℕ) (a : Act) (ps : Option Push) (ns : Option Sym) → level-opened (rule-word (some (rule k a ps ns))) (entry-word (ent X q u)) ≡ opened ps u
+  pub opened-found : (k : ℕ) (a : Act) (ps : Option Push) (ns : Option Sym)
+      → level-opened (rule-word (some (rule k a ps ns))) (entry-word (ent X q u)) ≡ opened ps u
   unfolding level-opened
   opened-found k a ps ns = rw (how-of k a ps ns, level-of, add-one (lev u)) (go ps)
     where
@@ -248,7 +262,8 @@ module _ (X : Sym) (q : ℕ) (u : Ctx) (hq : q < 65536) (hc : cal u < 65536) (hd
 
   -- and what it pushes above and beside what lies below
   module _ (k : ℕ) (a : Act) (ps : Option Push) (ns : Option Sym) (n : ℕ) where
-    pushed-above : (s : List Entry) → above (rule-word (some (rule k a ps ns))) (entry-word (ent X q u)) n ++ map entry-word s ≡ map entry-word (places ps n q u s)
+    pushed-above : (s : List Entry)
+        → above (rule-word (some (rule k a ps ns))) (entry-word (ent X q u)) n ++ map entry-word s ≡ map entry-word (places ps n q u s)
     pushed-above s = rw (how-of k a ps ns, push-of k a ps ns, level-of, link-of, call-of, add-one (lev u)) (go ps)
       where
         go : (ps : Option Push)
@@ -265,7 +280,8 @@ module _ (X : Sym) (q : ℕ) (u : Ctx) (hq : q < 65536) (hc : cal u < 65536) (hd
         go (some (back Y)) = refl
         go (some (call Y)) = refl
 
-    pushed-beside : (s : List Entry) → beside (rule-word (some (rule k a ps ns))) (entry-word (ent X q u)) n ++ map entry-word s ≡ map entry-word (follow ns n u s)
+    pushed-beside : (s : List Entry)
+        → beside (rule-word (some (rule k a ps ns))) (entry-word (ent X q u)) n ++ map entry-word s ≡ map entry-word (follow ns n u s)
     pushed-beside s = rw (flag-of k a ps ns, next-of k a ps ns, level-of, call-of) (go ns)
       where
         go : (ns : Option Sym)

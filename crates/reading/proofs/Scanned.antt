@@ -64,7 +64,8 @@ stored-over (w ∷ ws) l n over x h e = go (leb (length l) n) refl (λ room k. s
         let none-left : length l - n ≡ 0 = omega arith in
         let is : w ≡ x = same-word (rw none-left at e) in
         rw (eq-eqb n (length l) full)
-        (stored-full ws (set l n (word-entry w)) (n + 1) (place-word w) (omega (arith, kept)) ∙ ap (λ (y : Word). halted (refusal-number TOKENS) (place-word y)) is)
+        (stored-full ws (set l n (word-entry w)) (n + 1) (place-word w) (omega (arith, kept))
+        ∙ ap (λ (y : Word). halted (refusal-number TOKENS) (place-word y)) is)
     go false b ih =
         let room : n < length l = leb-false (length l) n b in
         let left : length l - n ≡ suc (length (set l n (word-entry w)) - (n + 1)) = omega (arith, kept) in
@@ -94,7 +95,9 @@ module _ (s l : List ℕ) (size : length l ≡ most) where
   scan-refused tree c p h = go (wordsOf s) h
     where
       count : (ts : List Word) (o : Option Word) → past most ts ≡ o → stored ts l 0 0 ≡ halted c p → told tree (Reader.counted s ts o) ≡ halted c p
-      count ts (some x) e h = let z : most ≡ length l - 0 = omega arith in sym (stored-over ts l 0 0 x (omega arith) (subst (λ (n : ℕ). past n ts ≡ some x) z e)) ∙ h
+      count ts (some x) e h =
+          let z : most ≡ length l - 0 = omega arith in
+          sym (stored-over ts l 0 0 x (omega arith) (subst (λ (n : ℕ). past n ts ≡ some x) z e)) ∙ h
       count ts none e h = absurd (halts (sym (stored-room ts [] l 0 (omega (arith, within most ts e))) ∙ h))
 
       go : (w : Result (List Word)) → scanned w l 0 0 ≡ halted c p → told tree (Reader.scanned s w) ≡ halted c p

@@ -14,7 +14,8 @@ use Rattle.language.specs.Words.{Word, place-word}
 use Rattle.language.specs.Table.{Node, wordOf}
 use Rattle.language.specs.Levels.{deepest}
 use Rattle.language.specs.Reading.{placeIn}
-use Rattle.language.proofs.reading.Machine.{tag, cal, lev, ctx, Ctx, Sym, Push, kid, deep, same, body, back, call, Rule, rule, rules, pick, Entry, ent, act, opened, places, follow}
+use Rattle.language.proofs.reading.Machine.{tag, cal, lev, ctx, Ctx, Sym, Push, kid, deep, same, body, back, call, Rule, rule, rules, pick, Entry}
+use Rattle.language.proofs.reading.Machine.{ent, act, opened, places, follow}
 use Rattle.language.proofs.reading.Bounds.{End, finished, wrong, too-deep, fireB, bounded}
 use Rattle.reading.specs.Codes.{word-entry, rule-word, entry-word}
 use Rattle.reading.specs.Steps.{rule-for, run, Ended, whole, halted}
@@ -78,7 +79,13 @@ module _ (text l : List ℕ) (x : Word) (ts : List Word) (X : Sym) (q : ℕ) (u 
         ≡ halted (refusal-number LEVEL) (place-word x)
     unfolding run
     deep-word b =
-        rw (at-rule (some (rule j a ps ns)) picked, ne-eqb _ 0 (no-zero j a ps ns), opened-found X q u hq hc (omega arith) j a ps ns, b, place-of-word x hp) refl
+        rw (
+          at-rule (some (rule j a ps ns)) picked,
+          ne-eqb _ 0 (no-zero j a ps ns),
+          opened-found X q u hq hc (omega arith) j a ps ns,
+          b,
+          place-of-word x hp,
+        ) refl
 
     taken-word : ltb deepest (opened ps u) ≡ false
         → run (length text) (word-entry x ∷ map word-entry ts) (entry-word (ent X q u) ∷ map entry-word s) (table-after t l) (length t)

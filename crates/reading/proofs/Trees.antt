@@ -47,7 +47,8 @@ linked-words t (suc q) x n = go (leb (suc q) (length t)) refl
   where
     go : (b : Bool) → leb (suc q) (length t) ≡ b
         → cond (eqb (suc q) 0) (map wordOf t ++ x)
-        (cond (leb (suc q) (length t)) (set (map wordOf t ++ x) (suc q - 1) (getD (map wordOf t ++ x) (suc q - 1) 0 / 65536 * 65536 + length t)) (map wordOf t ++ x))
+        (cond (leb (suc q) (length t))
+        (set (map wordOf t ++ x) (suc q - 1) (getD (map wordOf t ++ x) (suc q - 1) 0 / 65536 * 65536 + length t)) (map wordOf t ++ x))
         ≡ map wordOf (set-sib q (length t) t) ++ x
     go true b =
         let h : q < length t = leb-true (suc q) (length t) b in

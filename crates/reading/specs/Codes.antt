@@ -4,8 +4,11 @@ use mathlib.Core.Option.{Option, none, some}
 use Prim.Native.Nat.{ℕ, _+_, _*_, _/_, _%_}
 use lib.ListN.{getD}
 use Rattle.language.specs.Words.{Word, place-word}
-use Rattle.language.proofs.reading.Machine.{tag, cal, lev, Sym, Act, skip, leaf, fork, turn, Push, kid, deep, same, body, back, call, Rule, rule, rules, pick, Entry, ent}
-use Rattle.language.proofs.reading.Machine.{sBlock, sBody, sTail, sSemi, sCN, sCT, sExpr, sFunH, sFN, sFT, sFL, sArg1, sArg0, sColon, sType, sVN, sProcH, sPN, sPL, sArgp1, sArgp0, sVarN, sSN, sIC, sIB, sWC, sKN, sK1, sK0, sParen, sParenP, sE3, sE2, sE1, sRP, sArgs1, sArgs0, sAN, sTs1, sTs0, sTR}
+use Rattle.language.proofs.reading.Machine.{tag, cal, lev, Sym, Act, skip, leaf, fork, turn, Push, kid, deep, same, body, back, call, Rule, rule}
+use Rattle.language.proofs.reading.Machine.{rules, pick, Entry, ent}
+use Rattle.language.proofs.reading.Machine.{sBlock, sBody, sTail, sSemi, sCN, sCT, sExpr, sFunH, sFN, sFT, sFL, sArg1, sArg0, sColon, sType, sVN}
+use Rattle.language.proofs.reading.Machine.{sProcH, sPN, sPL, sArgp1, sArgp0, sVarN, sSN, sIC, sIB, sWC, sKN, sK1, sK0, sParen, sParenP, sE3, sE2}
+use Rattle.language.proofs.reading.Machine.{sE1, sRP, sArgs1, sArgs0, sAN, sTs1, sTs0, sTR}
 
 -- a word of the text: its kind and its place
 abbrev pub word-entry : Word → ℕ

@@ -1,5 +1,6 @@
--- What the code's loop computes: the grammar's machine on numbers, a word at a time. Nothing here is believed: `proofs/Simulated` ties it to the bounded machine of
--- the language. `r` is a rule, `w` the entry on top of the stack, `n` the link of the next node, `m` the number of nodes in the tree, `p` a place.
+-- What the code's loop computes: the grammar's machine on numbers, a word at a time. Nothing here is believed: `proofs/Simulated` ties it to the
+-- language's bounded machine.
+-- `r` is a rule, `w` the entry on top of the stack, `n` the link of the next node, `m` the number of nodes in the tree, `p` a place.
 use mathlib.Core.Bool.{cond}
 use mathlib.Core.List.{List, [], _∷_, _++_}
 use Prim.Native.Nat.{ℕ, _+_, _-_, _*_, _/_, _%_}

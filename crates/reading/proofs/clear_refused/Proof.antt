@@ -4,30 +4,24 @@ use Rattle.reading.specs.Outcomes.{kept}
 use borrow.Author.Needs.{needs}
 use Rattle.reading.proofs.clear_refused.Statement.{statement}
 use Rattle.reading.proofs.clear_refused.Tie as tie
-use Rattle.reading.proofs.clear_refused.Reads as reads
-use Rattle.reading.proofs.clear_refused.Lts as lts
-use Rattle.limits.proofs.clear_words.Reads as clear-words-reads
 
--- src/lib.rt:52:55
 enum-told : tie.Need-enum-told
 enum-told c = search needs
 
--- src/lib.rt:52:35
 clear-words-requires : tie.Need-clear-words-requires
 clear-words-requires c κs = search needs
 
 enum-told-2 : tie.Need-enum-told-2
 enum-told-2 c = search needs
 
--- src/lib.rt:48:1
 same-length : tie.Need-same-length
 same-length c = search needs
 
--- src/lib.rt:48:1
 returns : tie.Need-returns
-returns c = c .before .before .clear-words .ensures ∙ sym (ap (λ (o : Outcome). kept o (c .before .before .before .before .before .before .before .args .tree .now)) (c .before .before .before .before .enum-told .given .1))
+returns c = c .before .before .clear-words .ensures ∙ sym
+    (ap (λ (o : Outcome). kept o (c .before .before .before .before .before .before .before .args .tree .now))
+    (c .before .before .before .before .enum-told .given .1))
 
--- src/lib.rt:48:1
 returns-2 : tie.Need-returns-2
 returns-2 c = search needs
 

@@ -1,4 +1,4 @@
-use mathlib.Core.Path.{_≡_, refl, _∙_, ap, sym}
+use mathlib.Core.Path.{_≡_, _∙_}
 use Prim.Native.Nat.{_≤_, _<_, _+_, _-_}
 use native.Mathlib.Omega.{arith}
 use lib.ListN.{length, drop}
@@ -7,12 +7,6 @@ use Rattle.reading.proofs.Loops.{turn, refused, too-deep, emptied, ende
 use borrow.Author.Needs.{needs}
 use Rattle.reading.proofs.grammar.parse.Statement.{statement}
 use Rattle.reading.proofs.grammar.parse.Tie as tie
-use Rattle.reading.proofs.grammar.parse.Reads as reads
-use Rattle.reading.proofs.grammar.parse.Lts as lts
-use Rattle.reading.proofs.nodes.write.Reads as write-reads
-use Rattle.reading.proofs.rules.rule_for.Reads as rule-for-reads
-use Rattle.reading.proofs.stack.level_opened.Reads as level-opened-reads
-use Rattle.reading.proofs.stack.replace_top.Reads as replace-top-reads
 
 abbrev Inv-loop : tie.InvT-loop
 Inv-loop end words stack₀ tree₀ top i₀ at₀ m₀ stack tree i at m =
@@ -27,149 +21,134 @@ Inv-loop end words stack₀ tree₀ top i₀ at₀ m₀ stack tree i at m =
 abbrev μ-loop : tie.MeasureT-loop
 μ-loop end words stack₀ tree₀ top i₀ at₀ m₀ stack tree i at m = length words - i
 
--- src/grammar.rt:26:5
 loop-holds : tie.Need-loop-holds Inv-loop μ-loop
 loop-holds c = search needs
 
--- src/grammar.rt:27:17
 mul-x : tie.Need-mul-x Inv-loop μ-loop
 mul-x c = search needs
 
--- src/grammar.rt:27:17
 shared-slice-read-x : tie.Need-shared-slice-read-x Inv-loop μ-loop
 shared-slice-read-x c = search needs
 
--- src/grammar.rt:30:13
 same-length : tie.Need-same-length Inv-loop μ-loop
 same-length c = search needs
 
--- src/grammar.rt:30:13
 same-length-2 : tie.Need-same-length-2 Inv-loop μ-loop
 same-length-2 c = search needs
 
--- src/grammar.rt:30:13
 returns : tie.Need-returns Inv-loop μ-loop
 returns c =
+    let A = c .before .before .before .before .before .before .before .args in
     let L = c .before .before .before .loop in
-    let W = c .before .before .before .before .before .before .before .args .words .now in
-    L .inv .6 ∙ emptied (c .before .before .before .before .before .before .before .args .end) W (L .stack) (L .tree) (L .i) (L .at) (L .m) (c .before .before .loop-test .taken) (c .if1 .taken)
+    L .inv .6 ∙ emptied (A .end) (A .words .now) (L .stack) (L .tree) (L .i) (L .at) (L .m) (c .before .before .loop-test .taken) (c .if1 .taken)
 
--- src/grammar.rt:32:17
 mul-w : tie.Need-mul-w Inv-loop μ-loop
 mul-w c = search needs
 
--- src/grammar.rt:32:17
 slice-read-w : tie.Need-slice-read-w Inv-loop μ-loop
 slice-read-w c = search needs
 
--- src/grammar.rt:33:13
 rule-for-requires : tie.Need-rule-for-requires Inv-loop μ-loop
 rule-for-requires c κs = search needs
 
--- src/grammar.rt:35:13
 same-length-3 : tie.Need-same-length-3 Inv-loop μ-loop
 same-length-3 c = search needs
 
--- src/grammar.rt:35:13
 same-length-4 : tie.Need-same-length-4 Inv-loop μ-loop
 same-length-4 c = search needs
 
--- src/grammar.rt:35:13
 returns-2 : tie.Need-returns-2 Inv-loop μ-loop
 returns-2 c =
+    let A = c .before .before .before .before .before .before .before .before .before .before .args in
     let L = c .before .before .before .before .before .before .loop in
-    let W = c .before .before .before .before .before .before .before .before .before .before .args .words .now in
+    let R = c .before .rule-for in
     let he : L .at < length (L .stack) = omega arith in
-    L .inv .6 ∙ refused (c .before .before .before .before .before .before .before .before .before .before .args .end) W (L .stack) (L .tree) (L .i) (L .at) (L .m) (c .before .before .before .before .before .loop-test .taken) he (c .before .rule-for .result) (c .before .rule-for .ensures) (c .if2 .taken)
+    L .inv .6 ∙ refused (A .end) (A .words .now) (L .stack) (L .tree) (L .i) (L .at) (L .m)
+    (c .before .before .before .before .before .loop-test .taken) he (R .result) (R .ensures) (c .if2 .taken)
 
--- src/grammar.rt:37:22
 level-opened-requires : tie.Need-level-opened-requires Inv-loop μ-loop
 level-opened-requires c κs = search needs
 
--- src/grammar.rt:38:13
 same-length-5 : tie.Need-same-length-5 Inv-loop μ-loop
 same-length-5 c = search needs
 
--- src/grammar.rt:38:13
 same-length-6 : tie.Need-same-length-6 Inv-loop μ-loop
 same-length-6 c = search needs
 
--- src/grammar.rt:38:13
 returns-3 : tie.Need-returns-3 Inv-loop μ-loop
 returns-3 c =
+    let A = c .before .before .before .before .before .before .before .before .before .before .before .before .args in
     let L = c .before .before .before .before .before .before .before .before .loop in
-    let W = c .before .before .before .before .before .before .before .before .before .before .before .before .args .words .now in
+    let R = c .before .before .before .rule-for in
+    let O = c .before .level-opened in
     let he : L .at < length (L .stack) = omega arith in
     L .inv .6
-    ∙ too-deep (c .before .before .before .before .before .before .before .before .before .before .before .before .args .end) W (L .stack) (L .tree) (L .i) (L .at) (L .m) (c .before .before .before .before .before .before .before .loop-test .taken) he (c .before .before .before .rule-for .result) (c .before .before .before .rule-for .ensures) (c .before .before .if2 .left)
-    (c .before .level-opened .result) (c .before .level-opened .ensures) (c .if3 .taken)
+    ∙ too-deep (A .end) (A .words .now) (L .stack) (L .tree) (L .i) (L .at) (L .m)
+    (c .before .before .before .before .before .before .before .loop-test .taken) he (R .result) (R .ensures)
+    (c .before .before .if2 .left) (O .result) (O .ensures) (c .if3 .taken)
 
--- src/grammar.rt:40:49
 add-replace-top : tie.Need-add-replace-top Inv-loop μ-loop
 add-replace-top c = search needs
 
--- src/grammar.rt:40:9
 replace-top-requires : tie.Need-replace-top-requires Inv-loop μ-loop
 replace-top-requires c κs = search needs
 
--- src/grammar.rt:41:9
 write-requires : tie.Need-write-requires Inv-loop μ-loop
 write-requires c κs = search needs
 
--- src/grammar.rt:42:9
 add-i : tie.Need-add-i Inv-loop μ-loop
 add-i c = search needs
 
--- src/grammar.rt:26:5
 loop-less : tie.Need-loop-less Inv-loop μ-loop
 loop-less c = search needs
 
--- src/grammar.rt:26:5
 loop-again : tie.Need-loop-again Inv-loop μ-loop
 loop-again c =
+    let A = c .before .before .before .before .before .before .before .before .before .before .before .before .before .before .before .before .before
+    .before .before .before .args in
     let L = c .before .before .before .before .before .before .before .before .before .before .before .before .before .before .before .before .loop in
-    let W = c .before .before .before .before .before .before .before .before .before .before .before .before .before .before .before .before .before .before .before .before .args .words .now in
-    let he : L .at < length (L .stack) = omega arith in (
+    let R = c .before .before .before .before .before .before .before .before .before .before .before .rule-for in
+    let O = c .before .before .before .before .before .before .before .before .before .level-opened in
+    let W = c .before .before .write .ensures in
+    let he : L .at < length (L .stack) = omega arith in
+    let test = c .before .before .before .before .before .before .before .before .before .before .before .before .before .before .before .loop-test .taken in
+    let found = c .before .before .before .before .before .before .before .before .before .before .if2 .left in
+    let within = c .before .before .before .before .before .before .before .before .if3 .left in (
       search needs,
       search needs,
       search needs,
       search needs,
       search needs,
       search needs,
-      rw (c .before .before .before .before .before .before .replace-top .ensures .0, c .before .before .write .ensures .0, c .before .before .write .ensures .1 .0)
+      rw (c .before .before .before .before .before .before .replace-top .ensures .0, W .0, W .1 .0)
           (L .inv .6
-          ∙ turn (c .before .before .before .before .before .before .before .before .before .before .before .before .before .before .before .before .before .before .before .before .args .end) W (L .stack) (L .tree) (L .i) (L .at) (L .m) (c .before .before .before .before .before .before .before .before .before .before .before .before .before .before .before .loop-test .taken) he (c .before .before .before .before .before .before .before .before .before .before .before .rule-for .result) (c .before .before .before .before .before .before .before .before .before .before .before .rule-for .ensures) (c .before .before .before .before .before .before .before .before .before .before .if2 .left)
-          (c .before .before .before .before .before .before .before .before .before .level-opened .result) (c .before .before .before .before .before .before .before .before .before .level-opened .ensures) (c .before .before .before .before .before .before .before .before .if3 .left)),
+          ∙ turn (A .end) (A .words .now) (L .stack) (L .tree) (L .i) (L .at) (L .m) test he (R .result) (R .ensures) found (O .result) (O .ensures) within),
     )
 
--- src/grammar.rt:45:9
 same-length-7 : tie.Need-same-length-7 Inv-loop μ-loop
 same-length-7 c = search needs
 
--- src/grammar.rt:45:9
 same-length-8 : tie.Need-same-length-8 Inv-loop μ-loop
 same-length-8 c = search needs
 
--- src/grammar.rt:45:9
 returns-4 : tie.Need-returns-4 Inv-loop μ-loop
 returns-4 c =
+    let A = c .before .before .before .before .before .before .args in
     let L = c .before .before .loop in
-    L .inv .6 ∙ ended (c .before .before .before .before .before .before .args .end) (c .before .before .before .before .before .before .args .words .now) (L .stack) (L .tree) (L .i) (L .at) (L .m) (c .before .loop-test .left) (c .if4 .taken)
+    L .inv .6 ∙ ended (A .end) (A .words .now) (L .stack) (L .tree) (L .i) (L .at) (L .m) (c .before .loop-test .left) (c .if4 .taken)
 
--- src/grammar.rt:19:1
 same-length-9 : tie.Need-same-length-9 Inv-loop μ-loop
 same-length-9 c = search needs
 
--- src/grammar.rt:19:1
 same-length-10 : tie.Need-same-length-10 Inv-loop μ-loop
 same-length-10 c = search needs
 
--- src/grammar.rt:19:1
 returns-5 : tie.Need-returns-5 Inv-loop μ-loop
 returns-5 c =
+    let A = c .before .before .before .before .before .before .args in
     let L = c .before .before .loop in
     let he : L .at < length (L .stack) = omega arith in
-    L .inv .6 ∙ short (c .before .before .before .before .before .before .args .end) (c .before .before .before .before .before .before .args .words .now) (L .stack) (L .tree) (L .i) (L .at) (L .m) (c .before .loop-test .left) he
+    L .inv .6 ∙ short (A .end) (A .words .now) (L .stack) (L .tree) (L .i) (L .at) (L .m) (c .before .loop-test .left) he
 
 pub parse-spec : {M : Type 1} → statement M
 parse-spec =

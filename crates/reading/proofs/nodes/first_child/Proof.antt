@@ -3,18 +3,13 @@ use borrow.Author.Tests.{eq-eqb, ne-eqb}
 use borrow.Author.Needs.{needs}
 use Rattle.reading.proofs.nodes.first_child.Statement.{statement}
 use Rattle.reading.proofs.nodes.first_child.Tie as tie
-use Rattle.reading.proofs.nodes.first_child.Reads as reads
-use Rattle.reading.proofs.nodes.first_child.Lts as lts
 
--- src/nodes.rt:42:9
 returns : tie.Need-returns
 returns c = (rw (eq-eqb _ 1 (c .if1 .taken)) refl, search needs)
 
--- src/nodes.rt:44:5
 add-result : tie.Need-add-result
 add-result c = search needs
 
--- src/nodes.rt:37:1
 returns-2 : tie.Need-returns-2
 returns-2 c = (rw (ne-eqb _ 1 (c .if1 .left)) refl, search needs)
 

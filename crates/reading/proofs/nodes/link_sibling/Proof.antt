@@ -6,56 +6,42 @@ use Rattle.reading.specs.Steps.{linked}
 use borrow.Author.Needs.{needs}
 use Rattle.reading.proofs.nodes.link_sibling.Statement.{statement}
 use Rattle.reading.proofs.nodes.link_sibling.Tie as tie
-use Rattle.reading.proofs.nodes.link_sibling.Reads as reads
-use Rattle.reading.proofs.nodes.link_sibling.Lts as lts
 
--- src/nodes.rt:16:9
 returns : tie.Need-returns
 unfolding linked
 returns c = rw (eq-eqb _ 0 (c .if1 .taken)) refl
 
--- src/nodes.rt:19:24
 sub-old : tie.Need-sub-old
 sub-old c = search needs
 
--- src/nodes.rt:19:19
 mul-old : tie.Need-mul-old
 mul-old c = search needs
 
--- src/nodes.rt:19:19
 slice-read-old : tie.Need-slice-read-old
 slice-read-old c = search needs
 
--- src/nodes.rt:20:23
 mul-tree : tie.Need-mul-tree
 mul-tree c = omega (arith, c .slice-known .given (c .before .before .before .args .q - 1))
 
--- src/nodes.rt:20:23
 add-tree : tie.Need-add-tree
 add-tree c = omega (arith, c .slice-known .given (c .before .before .before .args .q - 1))
 
--- src/nodes.rt:20:14
 sub-tree : tie.Need-sub-tree
 sub-tree c = search needs
 
--- src/nodes.rt:20:9
 mul-tree-2 : tie.Need-mul-tree-2
 mul-tree-2 c = search needs
 
--- src/nodes.rt:20:9
 slice-write-tree : tie.Need-slice-write-tree
 slice-write-tree c = search needs
 
--- src/nodes.rt:11:1
 same-length : tie.Need-same-length
 same-length c = search needs
 
--- src/nodes.rt:11:1
 returns-2 : tie.Need-returns-2
 unfolding linked
 returns-2 c = rw (ne-eqb _ 0 (c .before .before .if1 .left), le-leb _ _ (c .before .if2 .taken)) refl
 
--- src/nodes.rt:11:1
 returns-3 : tie.Need-returns-3
 unfolding linked
 returns-3 c = rw (ne-eqb _ 0 (c .before .if1 .left), lt-leb _ _ (c .if2 .left)) refl

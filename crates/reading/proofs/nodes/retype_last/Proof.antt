@@ -4,51 +4,38 @@ use Rattle.reading.specs.Steps.{retyped}
 use borrow.Author.Needs.{needs}
 use Rattle.reading.proofs.nodes.retype_last.Statement.{statement}
 use Rattle.reading.proofs.nodes.retype_last.Tie as tie
-use Rattle.reading.proofs.nodes.retype_last.Reads as reads
-use Rattle.reading.proofs.nodes.retype_last.Lts as lts
 
--- src/nodes.rt:30:9
 returns : tie.Need-returns
 unfolding retyped
 returns c = rw (eq-eqb _ 0 (c .if1 .taken)) refl
 
--- src/nodes.rt:32:20
 sub-old : tie.Need-sub-old
 sub-old c = search needs
 
--- src/nodes.rt:32:15
 mul-old : tie.Need-mul-old
 mul-old c = search needs
 
--- src/nodes.rt:32:15
 slice-read-old : tie.Need-slice-read-old
 slice-read-old c = search needs
 
--- src/nodes.rt:33:19
 mul-tree : tie.Need-mul-tree
 mul-tree c = search needs
 
--- src/nodes.rt:33:19
 add-tree : tie.Need-add-tree
 add-tree c = search needs
 
--- src/nodes.rt:33:10
 sub-tree : tie.Need-sub-tree
 sub-tree c = search needs
 
--- src/nodes.rt:33:5
 mul-tree-2 : tie.Need-mul-tree-2
 mul-tree-2 c = search needs
 
--- src/nodes.rt:33:5
 slice-write-tree : tie.Need-slice-write-tree
 slice-write-tree c = search needs
 
--- src/nodes.rt:25:1
 same-length : tie.Need-same-length
 same-length c = search needs
 
--- src/nodes.rt:25:1
 returns-2 : tie.Need-returns-2
 unfolding retyped
 returns-2 c = rw (ne-eqb _ 0 (c .before .if1 .left)) refl

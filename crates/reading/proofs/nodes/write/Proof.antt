@@ -4,26 +4,17 @@ use Rattle.reading.specs.Steps.{wrote, count}
 use borrow.Author.Needs.{needs}
 use Rattle.reading.proofs.nodes.write.Statement.{statement}
 use Rattle.reading.proofs.nodes.write.Tie as tie
-use Rattle.reading.proofs.nodes.write.Reads as reads
-use Rattle.reading.proofs.nodes.write.Lts as lts
-use Rattle.reading.proofs.nodes.first_child.Reads as first-child-reads
-use Rattle.reading.proofs.nodes.link_sibling.Reads as link-sibling-reads
-use Rattle.reading.proofs.nodes.retype_last.Reads as retype-last-reads
 
--- src/nodes.rt:56:9
 returns : tie.Need-returns
 unfolding wrote count
 returns c = (rw (eq-eqb _ 0 (c .if1 .taken)) refl, (rw (eq-eqb _ 0 (c .if1 .taken)) refl, search needs))
 
--- src/nodes.rt:59:9
 retype-last-requires : tie.Need-retype-last-requires
 retype-last-requires c κs = search needs
 
--- src/nodes.rt:60:9
 same-length : tie.Need-same-length
 same-length c = search needs
 
--- src/nodes.rt:60:9
 returns-2 : tie.Need-returns-2
 unfolding wrote count
 returns-2 c =
@@ -31,51 +22,39 @@ returns-2 c =
     let turned = eq-eqb _ 3 (c .before .before .before .before .if2 .taken) in
     (rw (full, turned) (c .before .before .retype-last .ensures), (rw (full, turned) refl, search needs))
 
--- src/nodes.rt:62:5
 link-sibling-requires : tie.Need-link-sibling-requires
 link-sibling-requires c κs = search needs
 
--- src/nodes.rt:63:9
 first-child-requires : tie.Need-first-child-requires
 first-child-requires c κs = search needs
 
--- src/nodes.rt:64:15
 mul-tree : tie.Need-mul-tree
 mul-tree c = search needs
 
--- src/nodes.rt:64:40
 mul-tree-2 : tie.Need-mul-tree-2
 mul-tree-2 c = search needs
 
--- src/nodes.rt:64:15
 add-tree : tie.Need-add-tree
 add-tree c = search needs
 
--- src/nodes.rt:64:61
 mul-tree-3 : tie.Need-mul-tree-3
 mul-tree-3 c = search needs
 
--- src/nodes.rt:64:15
 add-tree-2 : tie.Need-add-tree-2
 add-tree-2 c = search needs
 
--- src/nodes.rt:64:5
 mul-tree-4 : tie.Need-mul-tree-4
 mul-tree-4 c = search needs
 
--- src/nodes.rt:64:5
 slice-write-tree : tie.Need-slice-write-tree
 slice-write-tree c = search needs
 
--- src/nodes.rt:65:5
 add-result : tie.Need-add-result
 add-result c = search needs
 
--- src/nodes.rt:48:1
 same-length-2 : tie.Need-same-length-2
 same-length-2 c = search needs
 
--- src/nodes.rt:48:1
 returns-3 : tie.Need-returns-3
 unfolding wrote count
 returns-3 c =

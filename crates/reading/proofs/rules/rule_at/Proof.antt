@@ -3,18 +3,13 @@ use Rattle.reading.specs.Codes.{rule-at}
 use borrow.Author.Needs.{needs}
 use Rattle.reading.proofs.rules.rule_at.Statement.{statement}
 use Rattle.reading.proofs.rules.rule_at.Tie as tie
-use Rattle.reading.proofs.rules.rule_at.Reads as reads
-use Rattle.reading.proofs.rules.rule_at.Lts as lts
 
--- src/rules.rt:57:5
 mul-result : tie.Need-mul-result
 mul-result c = search needs
 
--- src/rules.rt:57:5
 array-read-result : tie.Need-array-read-result
 array-read-result c = search needs
 
--- src/rules.rt:53:1
 returns : tie.Need-returns
 returns c = entry rule-at 1148 (c .args .i) (c .pre)
 

@@ -3,74 +3,55 @@ use Rattle.reading.specs.Entries.{entry-of}
 use borrow.Author.Needs.{needs}
 use Rattle.reading.proofs.scan.entry_of.Statement.{statement}
 use Rattle.reading.proofs.scan.entry_of.Tie as tie
-use Rattle.reading.proofs.scan.entry_of.Reads as reads
-use Rattle.reading.proofs.scan.entry_of.Lts as lts
 
--- src/scan.rt:34:23
 enum-told : tie.Need-enum-told
 enum-told c = search needs
 
--- src/scan.rt:35:23
 enum-known-found : tie.Need-enum-known-found
 enum-known-found c = search needs
 
--- src/scan.rt:35:58
 cast-t12 : tie.Need-cast-t12
 cast-t12 c = search needs
 
--- src/scan.rt:35:58
 mul-t13 : tie.Need-mul-t13
 mul-t13 c = search needs
 
--- src/scan.rt:35:58
 add-t16 : tie.Need-add-t16
 add-t16 c = search needs
 
--- src/scan.rt:36:35
 enum-known-found-2 : tie.Need-enum-known-found-2
 enum-known-found-2 c = search needs
 
--- src/scan.rt:36:62
 mul-t17 : tie.Need-mul-t17
 mul-t17 c = search needs
 
--- src/scan.rt:36:62
 add-t20 : tie.Need-add-t20
 add-t20 c = search needs
 
--- src/scan.rt:37:23
 enum-known-found-3 : tie.Need-enum-known-found-3
 enum-known-found-3 c = search needs
 
--- src/scan.rt:37:50
 mul-t21 : tie.Need-mul-t21
 mul-t21 c = search needs
 
--- src/scan.rt:37:50
 add-t24 : tie.Need-add-t24
 add-t24 c = search needs
 
--- src/scan.rt:38:26
 enum-known-found-4 : tie.Need-enum-known-found-4
 enum-known-found-4 c = search needs
 
--- src/scan.rt:30:1
 returns : tie.Need-returns
 returns c = search needs
 
--- src/scan.rt:30:1
 returns-2 : tie.Need-returns-2
 returns-2 c = sym (ap entry-of (c .before .found .given .1))
 
--- src/scan.rt:30:1
 returns-3 : tie.Need-returns-3
 returns-3 c = sym (ap entry-of (c .before .found2 .given .1))
 
--- src/scan.rt:30:1
 returns-4 : tie.Need-returns-4
 returns-4 c = sym (ap entry-of (c .before .found3 .given .1))
 
--- src/scan.rt:30:1
 returns-5 : tie.Need-returns-5
 returns-5 c = sym (ap entry-of (c .before .found4 .given .1))
 

@@ -1,16 +1,11 @@
 use mathlib.Core.Path.{refl}
 use borrow.Author.Tests.{eq-eqb, ne-eqb}
-use borrow.Author.Needs.{needs}
 use Rattle.reading.proofs.scan.first_over.Statement.{statement}
 use Rattle.reading.proofs.scan.first_over.Tie as tie
-use Rattle.reading.proofs.scan.first_over.Reads as reads
-use Rattle.reading.proofs.scan.first_over.Lts as lts
 
--- src/scan.rt:56:9
 returns : tie.Need-returns
 returns c = rw (eq-eqb _ _ (c .if1 .taken)) refl
 
--- src/scan.rt:52:1
 returns-2 : tie.Need-returns-2
 returns-2 c = rw (ne-eqb _ _ (c .if1 .left)) refl
 

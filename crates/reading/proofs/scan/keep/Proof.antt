@@ -3,26 +3,19 @@ use lib.Seq.{set-out}
 use borrow.Author.Needs.{needs}
 use Rattle.reading.proofs.scan.keep.Statement.{statement}
 use Rattle.reading.proofs.scan.keep.Tie as tie
-use Rattle.reading.proofs.scan.keep.Reads as reads
-use Rattle.reading.proofs.scan.keep.Lts as lts
 
--- src/scan.rt:47:9
 mul-table : tie.Need-mul-table
 mul-table c = search needs
 
--- src/scan.rt:47:9
 slice-write-table : tie.Need-slice-write-table
 slice-write-table c = search needs
 
--- src/scan.rt:43:1
 same-length : tie.Need-same-length
 same-length c = search needs
 
--- src/scan.rt:43:1
 returns : tie.Need-returns
 returns c = search needs
 
--- src/scan.rt:43:1
 returns-2 : tie.Need-returns-2
 returns-2 c = sym (set-out _ _ _ (c .if1 .left))
 

@@ -3,18 +3,13 @@ use borrow.Author.Tests.{eq-eqb, ne-eqb, lt-ltb, le-ltb}
 use borrow.Author.Needs.{needs}
 use Rattle.reading.proofs.stack.call_pushed.Statement.{statement}
 use Rattle.reading.proofs.stack.call_pushed.Tie as tie
-use Rattle.reading.proofs.stack.call_pushed.Reads as reads
-use Rattle.reading.proofs.stack.call_pushed.Lts as lts
 
--- src/stack.rt:53:9
 returns : tie.Need-returns
 returns c = (rw (eq-eqb _ 6 (c .if1 .taken)) refl, search needs)
 
--- src/stack.rt:56:9
 returns-2 : tie.Need-returns-2
 returns-2 c = (rw (ne-eqb _ 6 (c .before .if1 .left), lt-ltb _ 4 (c .if2 .taken)) refl, search needs)
 
--- src/stack.rt:48:1
 returns-3 : tie.Need-returns-3
 returns-3 c = (rw (ne-eqb _ 6 (c .before .if1 .left), le-ltb _ 4 (c .if2 .left)) refl, search needs)
 

@@ -4,19 +4,14 @@ use Rattle.reading.specs.Steps.{level-opened}
 use borrow.Author.Needs.{needs}
 use Rattle.reading.proofs.stack.level_opened.Statement.{statement}
 use Rattle.reading.proofs.stack.level_opened.Tie as tie
-use Rattle.reading.proofs.stack.level_opened.Reads as reads
-use Rattle.reading.proofs.stack.level_opened.Lts as lts
 
--- src/stack.rt:15:16
 add-result : tie.Need-add-result
 add-result c = search needs
 
--- src/stack.rt:15:9
 returns : tie.Need-returns
 unfolding level-opened
 returns c = rw (eq-eqb _ 2 (c .if1 .taken)) refl
 
--- src/stack.rt:11:1
 returns-2 : tie.Need-returns-2
 unfolding level-opened
 returns-2 c = rw (ne-eqb _ 2 (c .if1 .left)) refl

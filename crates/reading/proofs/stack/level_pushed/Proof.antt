@@ -3,18 +3,13 @@ use borrow.Author.Tests.{eq-eqb, ne-eqb}
 use borrow.Author.Needs.{needs}
 use Rattle.reading.proofs.stack.level_pushed.Statement.{statement}
 use Rattle.reading.proofs.stack.level_pushed.Tie as tie
-use Rattle.reading.proofs.stack.level_pushed.Reads as reads
-use Rattle.reading.proofs.stack.level_pushed.Lts as lts
 
--- src/stack.rt:65:16
 add-result : tie.Need-add-result
 add-result c = search needs
 
--- src/stack.rt:65:9
 returns : tie.Need-returns
 returns c = (rw (eq-eqb _ 2 (c .if1 .taken)) refl, search needs)
 
--- src/stack.rt:61:1
 returns-2 : tie.Need-returns-2
 returns-2 c = (rw (ne-eqb _ 2 (c .if1 .left)) refl, search needs)
 

@@ -4,77 +4,62 @@ use Rattle.reading.proofs.Stacks.{drop-push}
 use borrow.Author.Needs.{needs}
 use Rattle.reading.proofs.stack.push_above.Statement.{statement}
 use Rattle.reading.proofs.stack.push_above.Tie as tie
-use Rattle.reading.proofs.stack.push_above.Reads as reads
-use Rattle.reading.proofs.stack.push_above.Lts as lts
-use Rattle.reading.proofs.stack.call_pushed.Reads as call-pushed-reads
-use Rattle.reading.proofs.stack.level_pushed.Reads as level-pushed-reads
-use Rattle.reading.proofs.stack.link_pushed.Reads as link-pushed-reads
 
--- src/stack.rt:78:9
 returns : tie.Need-returns
 returns c = (rw (eq-eqb _ 0 (c .if1 .taken)) refl, search needs)
 
--- src/stack.rt:80:9
 level-pushed-requires : tie.Need-level-pushed-requires
 level-pushed-requires c κs = search needs
 
--- src/stack.rt:81:9
 link-pushed-requires : tie.Need-link-pushed-requires
 link-pushed-requires c κs = search needs
 
--- src/stack.rt:82:9
 call-pushed-requires : tie.Need-call-pushed-requires
 call-pushed-requires c κs = search needs
 
--- src/stack.rt:83:21
 mul-stack : tie.Need-mul-stack
 mul-stack c = search needs
 
--- src/stack.rt:83:52
 mul-stack-2 : tie.Need-mul-stack-2
 mul-stack-2 c = search needs
 
--- src/stack.rt:83:21
 add-stack : tie.Need-add-stack
 add-stack c = search needs
 
--- src/stack.rt:83:73
 mul-stack-3 : tie.Need-mul-stack-3
 mul-stack-3 c = search needs
 
--- src/stack.rt:83:21
 add-stack-2 : tie.Need-add-stack-2
 add-stack-2 c = search needs
 
--- src/stack.rt:83:21
 add-stack-3 : tie.Need-add-stack-3
 add-stack-3 c = search needs
 
--- src/stack.rt:83:11
 sub-stack : tie.Need-sub-stack
 sub-stack c = search needs
 
--- src/stack.rt:83:5
 mul-stack-4 : tie.Need-mul-stack-4
 mul-stack-4 c = search needs
 
--- src/stack.rt:83:5
 slice-write-stack : tie.Need-slice-write-stack
 slice-write-stack c = search needs
 
--- src/stack.rt:84:5
 sub-result : tie.Need-sub-result
 sub-result c = search needs
 
--- src/stack.rt:71:1
 same-length : tie.Need-same-length
 same-length c = search needs
 
--- src/stack.rt:71:1
 returns-2 : tie.Need-returns-2
 returns-2 c =
     let a = c .before .before .before .before .before .args in (
-      rw (ne-eqb _ 0 (c .before .before .before .if1 .left), ← c .before .before .level-pushed .ensures .0, ← c .before .link-pushed .ensures .0, ← c .call-pushed .ensures .0)
+      rw (
+        ne-eqb _ 0 (c .before .before .before .if1 .left),
+        ← c .before .before .level-pushed .ensures .0,
+        ← c
+            .before .link-pushed .ensures .0,
+        ← c .call-pushed .ensures .0,
+      )
           (drop-push (a .stack .now) (a .at) _ (search needs) (search needs)),
       search needs,
     )
