@@ -1,16 +1,17 @@
-// Prints the tree of the fare script on standard input, a word a line as 16 hex digits, or why there is none.
+// Prints the tree of the fare script on standard input, a word a line as 16 hex digits, or why it is refused.
 use libc::STDOUT_FILENO;
-use reading::Outcome;
+use verdict::Verdict;
 
 fn print_word(word: u64) {
     io::print_hex(STDOUT_FILENO, word, 16);
     io::write_all(STDOUT_FILENO, b"\n");
 }
 
-fn print_tree(tree: &[u64], count: usize) {
+// The words up to the zeros behind the tree: no node's word is 0.
+fn print_tree(tree: &[u64]) {
     let mut i: usize = 0;
     while i < tree.len() {
-        if i == count {
+        if tree[i] == 0 {
             return;
         }
         print_word(tree[i]);
@@ -18,18 +19,25 @@ fn print_tree(tree: &[u64], count: usize) {
     }
 }
 
-fn print_refusal(number: u8, place: usize) {
+fn print_refusal(number: u64, place: u64) {
     io::write_all(STDOUT_FILENO, b"refused ");
-    io::print_decimal(STDOUT_FILENO, number as u64);
+    io::print_decimal(STDOUT_FILENO, number);
     io::write_all(STDOUT_FILENO, b" at ");
-    io::print_decimal(STDOUT_FILENO, place as u64);
+    io::print_decimal(STDOUT_FILENO, place);
     io::write_all(STDOUT_FILENO, b"\n");
 }
 
-fn print(outcome: Outcome, tree: &[u64]) {
-    match outcome {
-        Outcome::Tree(count) => print_tree(tree, count),
-        Outcome::Refused(number, place) => print_refusal(number, place),
+fn print(answer: Verdict, tree: &[u64]) {
+    match answer {
+        Verdict::Accepted => print_tree(tree),
+        Verdict::Length => print_refusal(1, 0),
+        Verdict::Table => print_refusal(3, 0),
+        Verdict::Byte(place) => print_refusal(4, place),
+        Verdict::Number(place) => print_refusal(5, place),
+        Verdict::Tokens(place) => print_refusal(6, place),
+        Verdict::Syntax(place) => print_refusal(7, place),
+        Verdict::Level(place) => print_refusal(8, place),
+        Verdict::Type(place) => print_refusal(9, place),
     }
 }
 
@@ -40,6 +48,15 @@ fn main() {
     let mut tree = [0u64; 4096];
     let mut words = [0u64; 4096];
     let mut stack = [0u64; 4097];
-    let outcome = reading::read(&text[..length], &mut tree, &mut words, &mut stack);
-    print(outcome, &tree);
+    let mut scopes = [0u64; 4096];
+    let mut notes = [0u64; 4096];
+    let answer = verdict::check(
+        &text[..length],
+        &mut tree,
+        &mut words,
+        &mut stack,
+        &mut scopes,
+        &mut notes,
+    );
+    print(answer, &tree);
 }

@@ -201,12 +201,16 @@ module _ (x t₀ w₀ s₀ c₀ n₀ : List ℕ) (short : length x ≤ 16384) (r
     where
       b : Block
       b = h .tree
+
       a : ℕ
       a = refusedNode 4096 x (take 4096 t₁) n
+
       few : length (table b) ≤ 4096
       few = few-words (h .reads) short
+
       clear : limits.zeroed 0 4096 t₁ ≡ zeroed 4096 t₀
       clear = ap (limits.zeroed 0 4096) (h .words-are) ∙ wiped 4096 (table b) t₀ few
+
       here : ReadAs (record { tree = take 4096 t₁; text = x }) b
       here = subst (λ (t : List ℕ). ReadAs (record { tree = take 4096 t; text = x }) b) (sym (h .words-are)) (words-read (h .reads) short 4096 t₀ few)
 
