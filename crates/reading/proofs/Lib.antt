@@ -1,4 +1,3 @@
-pub mod Tables
 pub mod Stacks
 pub mod Loops
 pub mod Numbered
@@ -9,3 +8,4 @@ pub mod Scanned
 pub mod Entries
 pub mod Lefts
 pub mod Answers
+pub mod Finding

@@ -7,8 +7,7 @@ use Prim.Native.Nat.{ℕ, zero, suc, _+_, _-_, _*_, _/_, _%_, _<_, _≤_}
 use native.Mathlib.Numerals.{add-one}
 use native.Mathlib.Omega.{arith}
 use lib.Dec.{eqb, ltb}
-use lib.ListN.{getD}
-use borrow.Author.Tests.{ne-eqb, lt-ltb, ltb-true}
+use borrow.Author.Tests.{lt-leb, ltb-true}
 use Rattle.language.specs.Words.{Mark, kLbr, kRbr, kLpar, kRpar, kSemi, kColon, kComma, kStar, kArrow, kCONST, kFUN, kREC, kVAR, kPROC, kECHO, kSET}
 use Rattle.language.specs.Words.{kIF, kWHILE, kCALL, kif, kand, kor, kbool, kint, kvar, kadr, Word, mark, number, named, place-word}
 use Rattle.language.proofs.reading.Machine.{code, tag, cal, lev, ctx, Ctx, down, Sym, Act, Push, kid, deep, same, body, back, call, Rule, rule, rules}
@@ -18,42 +17,8 @@ use Rattle.language.proofs.reading.Machine.{sProcH, sPN, sPL, sArgp1, sArgp0, s
 use Rattle.language.proofs.reading.Machine.{sE1, sRP, sArgs1, sArgs0, sAN, sTs1, sTs0, sTR}
 use Rattle.language.proofs.reading.Machine
 use Rattle.reading.specs.Codes
-use Rattle.reading.specs.Codes.{word-entry, sym-code, syms, rule-word, entry-word}
-use Rattle.reading.specs.Steps.{sym-in, level-in, link-in, call-in, how-in, act-in, kind-in, rule-for, level-opened, above, beside}
-
--- the kinds of words are 1 to 28
-code-small : (m : Mark) → (1 ≤ code m) × (code m < 29)
-code-small kLbr = (omega arith, omega arith)
-code-small kRbr = (omega arith, omega arith)
-code-small kLpar = (omega arith, omega arith)
-code-small kRpar = (omega arith, omega arith)
-code-small kSemi = (omega arith, omega arith)
-code-small kColon = (omega arith, omega arith)
-code-small kComma = (omega arith, omega arith)
-code-small kStar = (omega arith, omega arith)
-code-small kArrow = (omega arith, omega arith)
-code-small kCONST = (omega arith, omega arith)
-code-small kFUN = (omega arith, omega arith)
-code-small kREC = (omega arith, omega arith)
-code-small kVAR = (omega arith, omega arith)
-code-small kPROC = (omega arith, omega arith)
-code-small kECHO = (omega arith, omega arith)
-code-small kSET = (omega arith, omega arith)
-code-small kIF = (omega arith, omega arith)
-code-small kWHILE = (omega arith, omega arith)
-code-small kCALL = (omega arith, omega arith)
-code-small kif = (omega arith, omega arith)
-code-small kand = (omega arith, omega arith)
-code-small kor = (omega arith, omega arith)
-code-small kbool = (omega arith, omega arith)
-code-small kint = (omega arith, omega arith)
-code-small kvar = (omega arith, omega arith)
-code-small kadr = (omega arith, omega arith)
-
-pub tag-small : (x : Word) → (1 ≤ tag x) × (tag x < 29)
-tag-small (mark m p) = code-small m
-tag-small (number p z) = (omega arith, omega arith)
-tag-small (named x) = (omega arith, omega arith)
+use Rattle.reading.specs.Codes.{word-entry, sym-code, rule-word, packed-rule, rule-list, rule-starts, entry-word}
+use Rattle.reading.specs.Steps.{sym-in, level-in, link-in, call-in, how-in, act-in, kind-in, found, rules-at, rule-for, level-opened, above, beside}
 
 -- the kind of node that a rule writes
 abbrev pub act-kind : Act → ℕ
@@ -69,13 +34,14 @@ abbrev kinds-fit : List Rule → Bool
 kinds-fit [] = true
 kinds-fit (r ∷ rs) = ltb (rule-kind r) 32 && kinds-fit rs
 
--- a symbol's number is below 41, and the list of symbols has it there; its rules write kinds of nodes below 32
+-- a symbol's number is below 41, and the table has its rules there; they write kinds of nodes below 32
 record Known (X : Sym) : Type 0 where
   small : sym-code X < 41
-  listed : getD syms (sym-code X) sRP ≡ X
+  listed : rules-at (sym-code X) ≡ map packed-rule (rules X)
   kinds : kinds-fit (rules X) ≡ true
 
 known : (X : Sym) → Known X
+unfolding rule-list rule-starts
 known sBlock = record { small = omega arith; listed = refl; kinds = refl }
 known sBody = record { small = omega arith; listed = refl; kinds = refl }
 known sTail = record { small = omega arith; listed = refl; kinds = refl }
@@ -210,6 +176,22 @@ module _ (k : ℕ) (a : Act) (ps : Option Push) (ns : Option Sym) where
   pub kind-of : act-kind a < 32 → kind-in (rule-word (some (rule k a ps ns))) ≡ act-kind a
   kind-of h = omega (arith, act-coded a, act-number-small a, how-small ps, push-small ps, flag-small ns, next-small ns)
 
+-- the first rule for a kind of word is the one that the machine picks
+found-picked : (k : ℕ) (rs : List Rule) → kinds-fit rs ≡ true → found k (map packed-rule rs) ≡ rule-word (pick k rs)
+unfolding found
+found-picked k [] h = refl
+found-picked k (rule j a ps ns ∷ rs) h =
+    let small : act-kind a < 32 = ltb-true (act-kind a) 32 (and-left (ltb (act-kind a) 32) (kinds-fit rs) h) in
+    let below : rule-word (some (rule j a ps ns)) < 16777216 =
+    omega (arith, small, act-coded a, act-number-small a, how-small ps, push-small ps, flag-small ns, next-small ns) in
+    let kind : packed-rule (rule j a ps ns) / 16777216 ≡ j = omega arith in
+    let word : packed-rule (rule j a ps ns) % 16777216 ≡ rule-word (some (rule j a ps ns)) = omega arith in
+    rw (kind, word, found-picked k rs (and-right (ltb (act-kind a) 32) (kinds-fit rs) h)) (picked (eqb k j))
+  where
+    picked : (b : Bool) → cond b (rule-word (some (rule j a ps ns))) (rule-word (pick k rs)) ≡ rule-word (cond b (some (rule j a ps ns)) (pick k rs))
+    picked true = refl
+    picked false = refl
+
 -- the parts of an entry
 module _ (X : Sym) (q : ℕ) (u : Ctx) (hq : q < 65536) (hc : cal u < 65536) (hd : lev u < 256) where
   sym-of : sym-in (entry-word (ent X q u)) ≡ sym-code X
@@ -228,22 +210,8 @@ module _ (X : Sym) (q : ℕ) (u : Ctx) (hq : q < 65536) (hc : cal u < 65536) (hd
   pub rule-found : (x : Word) → place-word x < 65536 → rule-for (entry-word (ent X q u)) (word-entry x) ≡ rule-word (pick (tag x) (rules X))
   unfolding rule-for
   rule-found x hp =
-      let s = tag-small x in
-      let low : 1 ≤ tag x = s .0 in
-      let high : tag x < 29 = s .1 in
-      let at-kind : word-entry x / 65536 ≡ tag x = omega arith in
-      let column : (sym-code X * 28 + (tag x - 1)) % 28 + 1 ≡ tag x = omega arith in
-      let row : (sym-code X * 28 + (tag x - 1)) / 28 ≡ sym-code X = omega arith in
-      rw (
-        sym-of,
-        at-kind,
-        lt-ltb (sym-code X) 41 (known X .small),
-        ne-eqb (tag x) 0 (λ z. omega arith),
-        lt-ltb (tag x) 29 high,
-        column,
-        row,
-        known X .listed,
-      ) refl
+      let kind : word-entry x / 65536 ≡ tag x = omega arith in
+      rw (sym-of, kind, lt-leb 41 (sym-code X) (known X .small), known X .listed) (found-picked (tag x) (rules X) (known X .kinds))
 
   -- the level that it opens
   pub opened-found : (k : ℕ) (a : Act) (ps : Option Push) (ns : Option Sym)

@@ -1,8 +1,8 @@
 -- The grammar's machine as numbers: what the rule table, the stack and the word table of the code hold.
-use mathlib.Core.List.{List, [], _∷_}
+use mathlib.Core.List.{List, [], _∷_, _++_, map}
 use mathlib.Core.Option.{Option, none, some}
-use Prim.Native.Nat.{ℕ, _+_, _*_, _/_, _%_}
-use lib.ListN.{getD}
+use Prim.Native.Nat.{ℕ, _+_, _*_}
+use lib.ListN.{length}
 use Rattle.language.specs.Words.{Word, place-word}
 use Rattle.language.proofs.reading.Machine.{tag, cal, lev, Sym, Act, skip, leaf, fork, turn, Push, kid, deep, same, body, back, call, Rule, rule}
 use Rattle.language.proofs.reading.Machine.{rules, pick, Entry, ent}
@@ -104,9 +104,24 @@ abbrev pub rule-word : Option Rule → ℕ
 rule-word none = 0
 rule-word (some (rule k a ps ns)) = ((act-code a * 512 + (how-code ps * 64 + push-code ps)) * 128 + (flag-code ns * 64 + next-code ns)) * 2 + 1
 
--- the entry of the rule table at i: 28 kinds of words for each symbol
-abbrev pub rule-at : ℕ → ℕ
-rule-at i = rule-word (pick (i % 28 + 1) (rules (getD syms (i / 28) sRP)))
+-- a rule with the kind of word that it is for
+abbrev pub packed-rule : Rule → ℕ
+packed-rule (rule k a ps ns) = k * 16777216 + rule-word (some (rule k a ps ns))
+
+-- the rules of some symbols, one symbol after the other, and where each symbol's start
+abbrev pub rules-of : List Sym → List ℕ
+rules-of [] = []
+rules-of (X ∷ s) = map packed-rule (rules X) ++ rules-of s
+
+abbrev pub starts-of : List Sym → ℕ → List ℕ
+starts-of [] n = n ∷ []
+starts-of (X ∷ s) n = n ∷ starts-of s (n + length (rules X))
+
+unfoldable pub rule-list : List ℕ
+rule-list = rules-of syms
+
+unfoldable pub rule-starts : List ℕ
+rule-starts = starts-of syms 0
 
 -- an entry of the stack: its symbol, its level, the link of the sibling before it, the link of the CALL that it stands in
 abbrev pub entry-word : Entry → ℕ

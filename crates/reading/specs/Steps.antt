@@ -5,10 +5,10 @@ use mathlib.Core.Bool.{cond}
 use mathlib.Core.List.{List, [], _∷_, _++_}
 use Prim.Native.Nat.{ℕ, _+_, _-_, _*_, _/_, _%_}
 use lib.Dec.{eqb, leb, ltb}
-use lib.ListN.{getD, set}
+use lib.ListN.{getD, set, take, drop}
 use Rattle.language.specs.Answers.{SYNTAX, LEVEL, refusal-number}
 use Rattle.language.specs.Levels.{deepest}
-use Rattle.reading.specs.Codes.{rule-at}
+use Rattle.reading.specs.Codes.{rule-list, rule-starts}
 
 -- the parts of an entry of the stack
 abbrev pub sym-in : ℕ → ℕ
@@ -33,12 +33,16 @@ act-in r = r / 4194304 % 4
 abbrev pub kind-in : ℕ → ℕ
 kind-in r = r / 131072 % 32
 
--- the rule for an entry and a word: 0 for none
+-- the rule for a kind of word among some, and for an entry and a word: 0 for none
+unfoldable pub found : ℕ → List ℕ → ℕ
+found k [] = 0
+found k (r ∷ rs) = cond (eqb k (r / 16777216)) (r % 16777216) (found k rs)
+
+abbrev pub rules-at : ℕ → List ℕ
+rules-at y = take (getD rule-starts (y + 1) 0 - getD rule-starts y 0) (drop (getD rule-starts y 0) rule-list)
+
 unfoldable pub rule-for : ℕ → ℕ → ℕ
-rule-for w x =
-    cond (ltb (sym-in w) 41)
-    (cond (eqb (x / 65536) 0) 0 (cond (ltb (x / 65536) 29) (rule-at (sym-in w * 28 + (x / 65536 - 1))) 0))
-    0
+rule-for w x = cond (leb 41 (sym-in w)) 0 (found (x / 65536) (rules-at (sym-in w)))
 
 -- the level that a rule opens: 0 for none
 unfoldable pub level-opened : ℕ → ℕ → ℕ

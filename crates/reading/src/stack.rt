@@ -64,10 +64,11 @@ fn call_pushed(how: u64, w: u64, n: u64) -> u64
 fn level_pushed(how: u64, w: u64) -> u64
     ensures { λ e. ⌜ (e ≡ level-pushed how w) × (e < 257) ⌝ }
 {
+    let level = w / 4294967296 % 256;
     if how == 2 {
-        return w / 4294967296 % 256 + 1;
+        return level + 1;
     }
-    w / 4294967296 % 256
+    level
 }
 
 // What the rule pushes is pushed.

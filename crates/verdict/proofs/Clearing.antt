@@ -24,7 +24,9 @@ module _ (k : ℕ) (l : List ℕ) (h : k ≤ length l) where
   cleared-again e g =
       let long : k ≤ length (e ++ drop k (zeroed 0 k l)) = omega (arith, length-front (zeroed 0 k l) e k g, length-zeroed 0 k l) in
       let front : length e ≡ k = g ∙ length-take-le k (zeroed 0 k l) (omega (arith, length-zeroed 0 k l)) in
-      zeroed-is 0 k _ long ∙ ap (λ (t : List ℕ). replicate k 0 ++ t) (drop-at e (drop k (zeroed 0 k l)) k front ∙ drop-zeroed 0 k l) ∙ sym (zeroed-is 0 k l h)
+      zeroed-is 0 k _ long
+      ∙ ap (λ (t : List ℕ). replicate k 0 ++ t) (drop-at e (drop k (zeroed 0 k l)) k front ∙ drop-zeroed 0 k l)
+      ∙ sym (zeroed-is 0 k l h)
 
 -- the judge over two such tables
 pub settled : (k : ℕ) (x t : List ℕ) (n r : ℕ) (s₀ n₀ s₁ n₁ e f s₂ n₂ : List ℕ) → k ≤ length s₀ → k ≤ length n₀ → s₁ ≡ zeroed 0 k s₀ → n₁ ≡ zeroed 0 k n₀ →

@@ -11,7 +11,7 @@ use Rattle.language.specs.Syntax.{Block}
 use Rattle.language.specs.Answers.{Refusal, TYPE, Answer, Result, fine, refuse, refusal-number}
 use Rattle.language.specs.Table.{table}
 use Rattle.language.specs.Reading.{Reading}
-use Rattle.language.specs.Promises.{Verdict, unread, verdict-answer, Lent, tree-table, large-enough, zeroed, holding, cleared, tree-after, Checked, Check, judged}
+use Rattle.language.specs.Promises.{Verdict, unread, verdict-answer, Lent, tree-table, large-enough, zeroed, holding, tree-after, Check, judged}
 use Rattle.limits.specs.Cleared as limits
 use Rattle.limits.proofs.Cleared.{zeroed-is}
 use Rattle.nodes.specs.Trees.{ReadAs}

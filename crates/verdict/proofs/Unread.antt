@@ -9,8 +9,8 @@ use lib.IntN.{ℤ, pos, negℤ}
 use lib.ListN.{length}
 use Rattle.language.specs.Answers.{Refusal, BYTE, NUMBER, refused, refusal-number, Result, fine, refuse}
 use Rattle.language.specs.Numbers.{in-range}
-use Rattle.language.specs.Words.{Mark, Word, mark, named, Front, gap, word, bad, keyWords, symbols, mark-of, stretch, isSep, isLetter, isDigit, isPlain, decimal}
-use Rattle.language.specs.Words.{spelled, numeral, minus, symbol, front, before, wordsFrom, wordsOf}
+use Rattle.language.specs.Words.{Mark, Word, Front, gap, word, bad, keyWords, symbols, mark-of, stretch, isSep, isLetter, isDigit, isPlain, decimal}
+use Rattle.language.specs.Words.{numeral, minus, front, before, wordsFrom}
 use Rattle.language.specs.Reading.{Reading, bad-word, too-many-words, begins-none, opens-65th}
 use Rattle.verdict.specs.Answers.{meant}
 use Rattle.verdict.specs.Judging.{unread}
@@ -42,7 +42,9 @@ numeral-begins i z more = either (in-range z) _ _ word-begins (bad-begins number
 
 minus-begins : (i : ℕ) (s : List ℕ) → Begins (minus i s)
 minus-begins i [] = bad-begins byte-named
-minus-begins i (b ∷ s) = either (eqb b 62) _ _ word-begins (either (isDigit b) _ _ (numeral-begins i (negℤ (pos (decimal 0 (stretch isDigit (b ∷ s))))) (length (stretch isDigit (b ∷ s)))) (bad-begins byte-named))
+minus-begins i (b ∷ s) =
+    either (eqb b 62) _ _ word-begins
+    (either (isDigit b) _ _ (numeral-begins i (negℤ (pos (decimal 0 (stretch isDigit (b ∷ s))))) (length (stretch isDigit (b ∷ s)))) (bad-begins byte-named))
 
 -- a spelling that is a mark, or something else
 of-mark : (o : Option Mark) (a : Front) (f : Mark → Front) → Begins a → ((m : Mark) → Begins (f m)) → Begins (elim o [ none ↦ a | some m ↦ f m ])

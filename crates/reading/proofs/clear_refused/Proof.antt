@@ -18,9 +18,7 @@ same-length : tie.Need-same-length
 same-length c = search needs
 
 returns : tie.Need-returns
-returns c = c .before .before .clear-words .ensures ∙ sym
-    (ap (λ (o : Outcome). kept o (c .before .before .before .before .before .before .before .args .tree .now))
-    (c .before .before .before .before .enum-told .given .1))
+returns c = c .before .before .clear-words .ensures ∙ sym (ap (λ (o : Outcome). kept o (c .before .before .before .before .before .before .before .args .tree .now)) (c .before .before .before .before .enum-told .given .1))
 
 returns-2 : tie.Need-returns-2
 returns-2 c = search needs

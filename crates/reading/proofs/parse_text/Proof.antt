@@ -28,21 +28,14 @@ slice-reshare-prefix-parse c =
     let A = c .before .before .before .before .before .before .before .before .before .before .before .args in
     let R = c .before .before .before .before .before .read-words in
     let S = c .before .scanned in
-    omega (
-      arith,
-      few (A .text .now) (A .words .now) (R .last .1 .0) (R .result)
-          (c .before .before .before .before .before .before .before .before .before .before .before .pre .2) (R .ensures) (S .given .0 .0)
-          (S .given .1),
-    )
+    omega (arith, few (A .text .now) (A .words .now) (R .last .1 .0) (R .result) (c .before .before .before .before .before .before .before .before .before .before .before .pre .2) (R .ensures) (S .given .0 .0) (S .given .1))
 
 slice-aggregate-parse : tie.Need-slice-aggregate-parse
 slice-aggregate-parse c =
     let A = c .before .before .before .before .before .before .before .before .before .before .before .before .args in
     let R = c .before .before .before .before .before .before .read-words in
     let S = c .before .before .scanned in
-    let counted = few (A .text .now) (A .words .now) (R .last .1 .0) (R .result)
-    (c .before .before .before .before .before .before .before .before .before .before .before .before .pre .2) (R .ensures) (S .given .0 .0)
-    (S .given .1) in
+    let counted = few (A .text .now) (A .words .now) (R .last .1 .0) (R .result) (c .before .before .before .before .before .before .before .before .before .before .before .before .pre .2) (R .ensures) (S .given .0 .0) (S .given .1) in
     sym (length-take-le (S .given .0 .0) (R .last .1 .0) (omega (arith, counted)))
 
 sub-parse : tie.Need-sub-parse
@@ -53,9 +46,7 @@ parse-requires c κs =
     let A = c .before .before .before .before .before .before .before .before .before .before .before .before .before .before .args in
     let R = c .before .before .before .before .before .before .before .before .read-words in
     let S = c .before .before .before .before .scanned in
-    let counted = few (A .text .now) (A .words .now) (R .last .1 .0) (R .result)
-    (c .before .before .before .before .before .before .before .before .before .before .before .before .before .before .pre .2) (R .ensures)
-    (S .given .0 .0) (S .given .1) in
+    let counted = few (A .text .now) (A .words .now) (R .last .1 .0) (R .result) (c .before .before .before .before .before .before .before .before .before .before .before .before .before .before .pre .2) (R .ensures) (S .given .0 .0) (S .given .1) in
     let taken = length-take-le (S .given .0 .0) (R .last .1 .0) (omega (arith, counted)) in
     (omega (arith, counted, taken), omega (arith, length-set (A .stack .now) 4096 0), omega (arith, counted, taken), omega (arith, counted, taken))
 
@@ -70,21 +61,17 @@ same-length-2 c = search needs
 
 same-length-3 : tie.Need-same-length-3
 same-length-3 c =
-    let A = c .before .before .before .before .before .before .before .before .before .before .before .before .before .before .before .before .before
-    .before .before .args in
+    let A = c .before .before .before .before .before .before .before .before .before .before .before .before .before .before .before .before .before .before .before .args in
     c .before .before .before .stack .given ∙ length-set (A .stack .now) 4096 0
 
 returns : tie.Need-returns
 returns c =
-    let A = c .before .before .before .before .before .before .before .before .before .before .before .before .before .before .before .before .before
-    .before .before .args in
-    let P = c .before .before .before .before .before .before .before .before .before .before .before .before .before .before .before .before .before
-    .before .before .pre in
+    let A = c .before .before .before .before .before .before .before .before .before .before .before .before .before .before .before .before .before .before .before .args in
+    let P = c .before .before .before .before .before .before .before .before .before .before .before .before .before .before .before .before .before .before .before .pre in
     let R = c .before .before .before .before .before .before .before .before .before .before .before .before .before .read-words in
     let S = c .before .before .before .before .before .before .before .before .before .scanned in
     let short : length (A .text .now) ≤ 65536 = omega arith in
-    sym (parsed (A .text .now) (A .words .now) (R .last .1 .0) (R .result) (P .2) (R .ensures) (A .stack .now) (A .tree .now) (S .given .0 .0) 4096
-    (S .given .1)
+    sym (parsed (A .text .now) (A .words .now) (R .last .1 .0) (R .result) (P .2) (R .ensures) (A .stack .now) (A .tree .now) (S .given .0 .0) 4096 (S .given .1)
     short (P .3) (P .1))
     ∙ c .before .before .before .before .parse .ensures
 
@@ -96,9 +83,7 @@ returns-2 c =
     let A = c .before .before .before .before .before .before .before .before .before .before .before .args in
     let R = c .before .before .before .before .before .read-words in
     let S = c .before .scanned2 in
-    refused (A .text .now) (A .words .now) (R .last .1 .0) (R .result)
-    (c .before .before .before .before .before .before .before .before .before .before .before .pre .2) (R .ensures) (A .tree .now)
-    (S .given .0 .0) (S .given .0 .1 .0) (S .given .1)
+    refused (A .text .now) (A .words .now) (R .last .1 .0) (R .result) (c .before .before .before .before .before .before .before .before .before .before .before .pre .2) (R .ensures) (A .tree .now) (S .given .0 .0) (S .given .0 .1 .0) (S .given .1)
 
 pub parse-text-spec : {M : Type 1} → statement M
 parse-text-spec =

@@ -17,14 +17,12 @@ returns-2 c =
 returns-3 : tie.Need-returns-3
 returns-3 c =
     let A = c .before .before .before .before .before .before .before .args in
-    too-small (c .before .before .if1 .left) (no-room-words (A .text .now) (A .tree .now) (A .words .now) (A .stack .now) (c .before .if2 .left)
-    (c .if3 .taken))
+    too-small (c .before .before .if1 .left) (no-room-words (A .text .now) (A .tree .now) (A .words .now) (A .stack .now) (c .before .if2 .left) (c .if3 .taken))
 
 returns-4 : tie.Need-returns-4
 returns-4 c =
     let A = c .before .before .before .before .before .before .before .before .args in
-    too-small (c .before .before .before .if1 .left) (no-room-stack (A .text .now) (A .tree .now) (A .words .now) (A .stack .now) (c .before
-    .before .if2 .left) (c .before .if3 .left) (c .if4 .taken))
+    too-small (c .before .before .before .if1 .left) (no-room-stack (A .text .now) (A .tree .now) (A .words .now) (A .stack .now) (c .before .before .if2 .left) (c .before .if3 .left) (c .if4 .taken))
 
 slice-relend-prefix-read-within : tie.Need-slice-relend-prefix-read-within
 slice-relend-prefix-read-within c = search needs
@@ -70,17 +68,12 @@ same-length-3 c = search needs
 
 returns-5 : tie.Need-returns-5
 returns-5 c =
-    let A = c .before .before .before .before .before .before .before .before .before .before .before .before .before .before .before .before .before
-    .before .args in
+    let A = c .before .before .before .before .before .before .before .before .before .before .before .before .before .before .before .before .before .before .args in
     let R = c .before .before .before .before .before .before .read-within in
     let last = R .last .1 in
     let left = R .ensures in
     promised (A .text .now) (A .tree .now) (A .words .now) (A .stack .now) (R .result) (last .0) (last .1 .0) (last .1 .1 .0)
-    (c .before .before .before .before .before .before .before .before .before .before .before .before .before .if1 .left)
-    (c .before .before .before .before .before .before .before .before .before .before .before .before .if2 .left)
-    (c .before .before .before .before .before .before .before .before .before .before .before .if3 .left)
-    (c .before .before .before .before .before .before .before .before .before .before .if4 .left) (left .0) (left .1 .0) (left .1 .1 .0)
-    (left .1 .1 .1)
+    (c .before .before .before .before .before .before .before .before .before .before .before .before .before .if1 .left) (c .before .before .before .before .before .before .before .before .before .before .before .before .if2 .left) (c .before .before .before .before .before .before .before .before .before .before .before .if3 .left) (c .before .before .before .before .before .before .before .before .before .before .if4 .left) (left .0) (left .1 .0) (left .1 .1 .0) (left .1 .1 .1)
 
 pub read-spec : {M : Type 1} → statement M
 read-spec =

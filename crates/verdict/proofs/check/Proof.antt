@@ -1,3 +1,4 @@
+-- `check`: the two early answers are the promise's own cases; what reading and judging leave gives the others.
 use mathlib.Core.Path.{_∙_, sym}
 use borrow.Author.Needs.{needs}
 use borrow.Author.Tests.{not-false, not-true}
@@ -29,7 +30,8 @@ same-length-5 c = search needs
 
 returns-2 : tie.Need-returns-2
 returns-2 c =
-    Check.too-small (c .before .before .before .before .before .before .before .if1 .left) (sym (c .before .tables-suffice .ensures) ∙ not-true (c .before .tables-suffice .result) (c .if2 .taken))
+    let T = c .before .tables-suffice in
+    Check.too-small (c .before .before .before .before .before .before .before .if1 .left) (sym (T .ensures) ∙ not-true (T .result) (c .if2 .taken))
 
 read-requires : tie.Need-read-requires
 read-requires c κs = search needs
@@ -39,7 +41,18 @@ enum-known-outcome c = search needs
 
 judge-tree-requires : tie.Need-judge-tree-requires
 judge-tree-requires c κs =
-    fits _ _ _ _ (c .before .before .before .before .before .before .before .before .before .before .before .before .before .before .before .before .before .before .before .before .before .before .before .before .before .before .before .before .before .before .args .scopes .now) (c .before .before .before .before .before .before .before .before .before .before .before .before .before .before .before .before .before .before .before .before .before .before .before .before .before .before .before .before .before .before .args .notes .now) (c .before .before .before .before .before .before .before .before .before .before .before .before .before .before .before .before .before .before .before .before .before .before .before .if1 .left) (sym (c .before .before .before .before .before .before .before .before .before .before .before .before .before .before .before .before .before .tables-suffice .ensures) ∙ not-false (c .before .before .before .before .before .before .before .before .before .before .before .before .before .before .before .before .before .tables-suffice .result) (c .before .before .before .before .before .before .before .before .before .before .before .before .before .before .before .before .if2 .left)) (c .before .before .before .before .before .before .before .before .before .before .before .before .read .ensures) (c .before .before .before .before .outcome .given .1) (c .before .before .before .before .before .before .before .before .before .before .before .before .read .kept .1 .0)
+    let T = c .before .before .before .before .before .before .before .before .before .before .before .before .before .before .before .before .before
+    .tables-suffice in
+    let R = c .before .before .before .before .before .before .before .before .before .before .before .before .read in
+    let short = c .before .before .before .before .before .before .before .before .before .before .before .before .before .before .before .before
+    .before .before .before .before .before .before .before .if1 .left in
+    let room = sym (T .ensures) ∙ not-false (T .result) (c .before .before .before .before .before .before .before .before .before .before .before
+    .before .before .before .before .before .if2 .left) in
+    fits _ _ _ _ (c .before .before .before .before .before .before .before .before .before .before .before .before .before .before .before .before
+    .before .before .before .before .before .before .before .before .before .before .before .before .before .before .args .scopes .now) (c .before
+    .before .before .before .before .before .before .before .before .before .before .before .before .before .before .before .before .before .before
+    .before .before .before .before .before .before .before .before .before .before .before .args .notes .now) short room (R .ensures) (c .before
+    .before .before .before .outcome .given .1) (R .kept .1 .0)
 
 enum-known-outcome-2 : tie.Need-enum-known-outcome-2
 enum-known-outcome-2 c = search needs
@@ -70,7 +83,16 @@ same-length-10 c = search needs
 
 returns-3 : tie.Need-returns-3
 returns-3 c =
-    tree-promised _ _ _ _ _ _ (c .before .before .before .before .before .before .before .before .before .before .before .before .before .before .before .before .before .before .before .before .before .before .before .before .before .before .before .before .before .before .if1 .left) (sym (c .before .before .before .before .before .before .before .before .before .before .before .before .before .before .before .before .before .before .before .before .before .before .before .before .tables-suffice .ensures) ∙ not-false (c .before .before .before .before .before .before .before .before .before .before .before .before .before .before .before .before .before .before .before .before .before .before .before .before .tables-suffice .result) (c .before .before .before .before .before .before .before .before .before .before .before .before .before .before .before .before .before .before .before .before .before .before .before .if2 .left)) (c .before .before .before .before .before .before .before .before .before .before .before .before .before .before .before .before .before .before .before .read .ensures) (c .before .before .before .before .before .before .before .before .before .before .before .outcome .given .1) (c .before .before .before .before .before .before .judge-tree .ensures)
+    let T = c .before .before .before .before .before .before .before .before .before .before .before .before .before .before .before .before .before
+    .before .before .before .before .before .before .before .tables-suffice in
+    let R = c .before .before .before .before .before .before .before .before .before .before .before .before .before .before .before .before .before
+    .before .before .read in
+    let short = c .before .before .before .before .before .before .before .before .before .before .before .before .before .before .before .before
+    .before .before .before .before .before .before .before .before .before .before .before .before .before .before .if1 .left in
+    let room = sym (T .ensures) ∙ not-false (T .result) (c .before .before .before .before .before .before .before .before .before .before .before
+    .before .before .before .before .before .before .before .before .before .before .before .before .if2 .left) in
+    tree-promised _ _ _ _ _ _ short room (R .ensures) (c .before .before .before .before .before .before .before .before .before .before .before
+    .outcome .given .1) (c .before .before .before .before .before .before .judge-tree .ensures)
 
 same-length-11 : tie.Need-same-length-11
 same-length-11 c = search needs
@@ -89,7 +111,17 @@ same-length-15 c = search needs
 
 returns-4 : tie.Need-returns-4
 returns-4 c =
-    none-promised _ _ _ _ _ _ (c .before .before .before .before .before .before .before .before .before .before .before .before .before .before .before .before .before .before .before .before .before .before .before .before .before .before .before .before .before .if1 .left) (sym (c .before .before .before .before .before .before .before .before .before .before .before .before .before .before .before .before .before .before .before .before .before .before .before .tables-suffice .ensures) ∙ not-false (c .before .before .before .before .before .before .before .before .before .before .before .before .before .before .before .before .before .before .before .before .before .before .before .tables-suffice .result) (c .before .before .before .before .before .before .before .before .before .before .before .before .before .before .before .before .before .before .before .before .before .before .if2 .left)) (c .before .before .before .before .before .before .before .before .before .before .before .before .before .before .before .before .before .before .read .ensures) (c .before .before .before .before .before .before .before .before .before .before .outcome2 .given .1) (c .unread-at .ensures) (c .before .before .before .before .before .before .before .clear-words .ensures) (c .before .before .before .clear-words2 .ensures)
+    let T = c .before .before .before .before .before .before .before .before .before .before .before .before .before .before .before .before .before
+    .before .before .before .before .before .before .tables-suffice in
+    let R = c .before .before .before .before .before .before .before .before .before .before .before .before .before .before .before .before .before
+    .before .read in
+    let short = c .before .before .before .before .before .before .before .before .before .before .before .before .before .before .before .before
+    .before .before .before .before .before .before .before .before .before .before .before .before .before .if1 .left in
+    let room = sym (T .ensures) ∙ not-false (T .result) (c .before .before .before .before .before .before .before .before .before .before .before
+    .before .before .before .before .before .before .before .before .before .before .before .if2 .left) in
+    none-promised _ _ _ _ _ _ short room (R .ensures) (c .before .before .before .before .before .before .before .before .before .before .outcome2
+    .given .1) (c .unread-at .ensures) (c .before .before .before .before .before .before .before .clear-words .ensures) (c .before .before .before
+    .clear-words2 .ensures)
 
 pub check-spec : {M : Type 1} → statement M
 check-spec =

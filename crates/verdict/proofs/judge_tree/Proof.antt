@@ -1,3 +1,4 @@
+-- `judge_tree`: with no refused node the tree stays; else its place is read before the tree is cleared.
 use borrow.Author.Needs.{needs}
 use Rattle.verdict.proofs.Clearing.{goes, part-long, stays}
 use Rattle.verdict.proofs.judge_tree.Statement.{statement}
@@ -29,7 +30,8 @@ slice-reshare-prefix-place-at c = search needs
 
 slice-aggregate-place-at : tie.Need-slice-aggregate-place-at
 slice-aggregate-place-at c =
-    part-long 4096 (c .before .before .before .before .before .before .before .before .before .before .before .before .before .before .args .tree .now) (search needs)
+    part-long 4096 (c .before .before .before .before .before .before .before .before .before .before .before .before .before .before .args .tree
+    .now) (search needs)
 
 sub-place-at : tie.Need-sub-place-at
 sub-place-at c = search needs
@@ -51,7 +53,8 @@ same-length-6 c = search needs
 
 returns-2 : tie.Need-returns-2
 returns-2 c =
-    goes (c .before .before .before .before .before .before .before .before .before .before .before .settle .ensures) (c .before .before .before .before .before .before .if1 .left) (c .before .before .before .before .place-at .ensures) (c .before .before .clear-words .ensures)
+    goes (c .before .before .before .before .before .before .before .before .before .before .before .settle .ensures) (c .before .before .before
+    .before .before .before .if1 .left) (c .before .before .before .before .place-at .ensures) (c .before .before .clear-words .ensures)
 
 pub judge-tree-spec : {M : Type 1} → statement M
 judge-tree-spec =

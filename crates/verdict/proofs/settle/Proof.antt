@@ -1,3 +1,4 @@
+-- `settle`: both tables are zeros when they are lent to the judge, and are cleared again.
 use mathlib.Core.Path.{_∙_}
 use lib.Seq.{length-front}
 use borrow.Author.Needs.{needs}
@@ -34,15 +35,32 @@ clear-words-requires-4 c κs = search needs
 
 same-length : tie.Need-same-length
 same-length c =
-    c .before .before .before .before .before .before .clear-words3 .kept .0 ∙ length-front (c .before .before .before .before .before .before .before .before .before .before .before .before .before .before .before .before .before .before .before .before .before .clear-words .last .0) (c .before .before .before .before .before .before .before .before .before .before .before .before .first-refused .last .1 .1 .0) 4096 (c .before .before .before .before .before .before .before .before .before .before .before .before .first-refused .kept .1 .1 .0) ∙ c .before .before .before .before .before .before .before .before .before .before .before .before .before .before .before .before .before .before .before .before .before .clear-words .kept .0
+    let S = c .before .before .before .before .before .before .before .before .before .before .before .before .before .before .before .before .before
+    .before .before .before .before .clear-words in
+    let J = c .before .before .before .before .before .before .before .before .before .before .before .before .first-refused in
+    c .before .before .before .before .before .before .clear-words3 .kept .0 ∙ length-front (S .last .0) (J .last .1 .1 .0) 4096 (J .kept .1 .1 .0) ∙
+    S .kept .0
 
 same-length-2 : tie.Need-same-length-2
 same-length-2 c =
-    c .before .before .clear-words4 .kept .0 ∙ length-front (c .before .before .before .before .before .before .before .before .before .before .before .before .before .before .before .before .before .clear-words2 .last .0) (c .before .before .before .before .before .before .before .before .before .before .before .before .first-refused .last .1 .1 .1 .0) 4096 (c .before .before .before .before .before .before .before .before .before .before .before .before .first-refused .kept .1 .1 .1 .0) ∙ c .before .before .before .before .before .before .before .before .before .before .before .before .before .before .before .before .before .clear-words2 .kept .0
+    let N = c .before .before .before .before .before .before .before .before .before .before .before .before .before .before .before .before .before
+    .clear-words2 in
+    let J = c .before .before .before .before .before .before .before .before .before .before .before .before .first-refused in
+    c .before .before .clear-words4 .kept .0 ∙ length-front (N .last .0) (J .last .1 .1 .1 .0) 4096 (J .kept .1 .1 .1 .0) ∙ N .kept .0
 
 returns : tie.Need-returns
 returns c =
-    settled 4096 _ _ _ _ _ _ (c .before .before .before .before .before .before .before .before .before .before .before .before .before .before .before .before .before .before .before .before .before .clear-words .last .0) (c .before .before .before .before .before .before .before .before .before .before .before .before .before .before .before .before .before .clear-words2 .last .0) (c .before .before .before .before .before .before .before .before .before .before .before .before .first-refused .last .1 .1 .0) (c .before .before .before .before .before .before .before .before .before .before .before .before .first-refused .last .1 .1 .1 .0) _ _ (c .before .before .before .before .before .before .before .before .before .before .before .before .before .before .before .before .before .before .before .before .before .before .before .before .before .before .before .pre .1) (c .before .before .before .before .before .before .before .before .before .before .before .before .before .before .before .before .before .before .before .before .before .before .before .before .before .before .before .pre .2) (c .before .before .before .before .before .before .before .before .before .before .before .before .before .before .before .before .before .before .before .before .before .clear-words .ensures) (c .before .before .before .before .before .before .before .before .before .before .before .before .before .before .before .before .before .clear-words2 .ensures) (c .before .before .before .before .before .before .before .before .before .before .before .before .first-refused .ensures) (c .before .before .before .before .before .before .before .before .before .before .before .before .first-refused .kept .1 .1 .0) (c .before .before .before .before .before .before .before .before .before .before .before .before .first-refused .kept .1 .1 .1 .0) (c .before .before .before .before .before .before .clear-words3 .ensures) (c .before .before .clear-words4 .ensures)
+    let S = c .before .before .before .before .before .before .before .before .before .before .before .before .before .before .before .before .before
+    .before .before .before .before .clear-words in
+    let N = c .before .before .before .before .before .before .before .before .before .before .before .before .before .before .before .before .before
+    .clear-words2 in
+    let J = c .before .before .before .before .before .before .before .before .before .before .before .before .first-refused in
+    settled 4096 _ _ _ _ _ _ (S .last .0) (N .last .0) (J .last .1 .1 .0) (J .last .1 .1 .1 .0) _ _ (c .before .before .before .before .before .before
+    .before .before .before .before .before .before .before .before .before .before .before .before .before .before .before .before .before .before
+    .before .before .before .pre .1) (c .before .before .before .before .before .before .before .before .before .before .before .before .before
+    .before .before .before .before .before .before .before .before .before .before .before .before .before .before .pre .2) (S .ensures) (N .ensures)
+    (J .ensures) (J .kept .1 .1 .0) (J .kept .1 .1 .1 .0) (c .before .before .before .before .before .before .clear-words3 .ensures) (c .before
+    .before .clear-words4 .ensures)
 
 pub settle-spec : {M : Type 1} → statement M
 settle-spec =

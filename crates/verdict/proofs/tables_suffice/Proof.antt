@@ -1,3 +1,4 @@
+-- `tables_suffice`: the tests are the promise's, in its order.
 use borrow.Author.Tests.{le-leb, lt-leb}
 use Rattle.verdict.proofs.tables_suffice.Statement.{statement}
 use Rattle.verdict.proofs.tables_suffice.Tie as tie

@@ -1,3 +1,4 @@
+-- `unread_at`: each number of a refusal of reading has its own answer.
 use borrow.Author.Tests.{ne-eqb}
 use Rattle.verdict.specs.Judging.{unread}
 use Rattle.verdict.proofs.unread_at.Statement.{statement}

@@ -31,7 +31,8 @@ unfolding ifRule
 returns-2 c =
     rw (
       ← c .before .before .before .before .before .before .before .has-kind .ensures,
-      not-false (c .before .before .before .before .before .before .before .has-kind .result) (c .before .before .before .before .before .before .if1 .left),
+      not-false (c .before .before .before .before .before .before .before .has-kind .result) (c .before .before .before .before .before .before .if1
+          .left),
       ← c .before .before .before .before .before .next-at .ensures,
       ← c .before .before .before .before .entry .ensures,
       ← c .before .before .before .next-at2 .ensures,
@@ -45,7 +46,8 @@ unfolding ifRule
 returns-3 c =
     rw (
       ← c .before .before .before .before .before .before .before .has-kind .ensures,
-      not-false (c .before .before .before .before .before .before .before .has-kind .result) (c .before .before .before .before .before .before .if1 .left),
+      not-false (c .before .before .before .before .before .before .before .has-kind .result) (c .before .before .before .before .before .before .if1
+          .left),
       ← c .before .before .before .before .before .next-at .ensures,
       ← c .before .before .before .before .entry .ensures,
       ← c .before .before .before .next-at2 .ensures,

@@ -48,16 +48,18 @@ loop-less c = search needs
 loop-again : tie.Need-loop-again Inv-loop μ-loop
 unfolding scopeStep
 loop-again c = (
-  rw (← c .before .before .before .before .before .before .before .before .before .before .before .before .before .before .before .before .loop .inv .0) (rw (
-    scopes-more _ _ (c .before .before .before .before .before .before .before .before .before .before .before .before .before .before .before .loop-test .taken),
-    ← c .before .before .before .before .before .before .before .before .before .before .before .before .before .inner .ensures,
-    ← c .before .before .before .before .before .before .before .before .before .before .before .outer .ensures,
-    ← c .before .before .before .before .before .before .before .before .before .before .row-after .ensures,
-    ← c .before .before .before .before .before .before .before .before .child-at .ensures,
-    ← c .before .before .before .next-at .ensures,
-    c .before .before .give-scope2 .ensures,
-    c .before .before .before .before .before .before .before .give-scope .ensures,
-  )),
+  rw (← c .before .before .before .before .before .before .before .before .before .before .before .before .before .before .before .before .loop .inv
+      .0) (rw (
+        scopes-more _ _ (c .before .before .before .before .before .before .before .before .before .before .before .before .before .before .before
+            .loop-test .taken),
+        ← c .before .before .before .before .before .before .before .before .before .before .before .before .before .inner .ensures,
+        ← c .before .before .before .before .before .before .before .before .before .before .before .outer .ensures,
+        ← c .before .before .before .before .before .before .before .before .before .before .row-after .ensures,
+        ← c .before .before .before .before .before .before .before .before .child-at .ensures,
+        ← c .before .before .before .next-at .ensures,
+        c .before .before .give-scope2 .ensures,
+        c .before .before .before .before .before .before .before .give-scope .ensures,
+      )),
   omega arith,
   omega (
     arith,

@@ -67,7 +67,8 @@ module _ (t : ℕ) where
 
   same-type-returns : same-type-lts.Need-returns (asks t) (same-type-at t) same-type.Post same-type-Inv-loop same-type-μ-loop
   same-type-returns c =
-      same-base _ _ _ _ _ (c .before .before .before .note-kind .ensures) (c .before .before .note-kind2 .ensures) (c .before .is-function .ensures) (not-true (c .before .is-function .result) (c .if1 .taken))
+      same-base _ _ _ _ _ (c .before .before .before .note-kind .ensures) (c .before .before .note-kind2 .ensures) (c .before .is-function .ensures)
+      (not-true (c .before .is-function .result) (c .if1 .taken))
 
   same-type-returns-2 : same-type-lts.Need-returns-2 (asks t) (same-type-at t) same-type.Post same-type-Inv-loop same-type-μ-loop
   unfolding same

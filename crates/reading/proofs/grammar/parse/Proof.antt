@@ -63,8 +63,7 @@ returns-2 c =
     let L = c .before .before .before .before .before .before .loop in
     let R = c .before .rule-for in
     let he : L .at < length (L .stack) = omega arith in
-    L .inv .6 ∙ refused (A .end) (A .words .now) (L .stack) (L .tree) (L .i) (L .at) (L .m)
-    (c .before .before .before .before .before .loop-test .taken) he (R .result) (R .ensures) (c .if2 .taken)
+    L .inv .6 ∙ refused (A .end) (A .words .now) (L .stack) (L .tree) (L .i) (L .at) (L .m) (c .before .before .before .before .before .loop-test .taken) he (R .result) (R .ensures) (c .if2 .taken)
 
 level-opened-requires : tie.Need-level-opened-requires Inv-loop μ-loop
 level-opened-requires c κs = search needs
@@ -83,8 +82,7 @@ returns-3 c =
     let O = c .before .level-opened in
     let he : L .at < length (L .stack) = omega arith in
     L .inv .6
-    ∙ too-deep (A .end) (A .words .now) (L .stack) (L .tree) (L .i) (L .at) (L .m)
-    (c .before .before .before .before .before .before .before .loop-test .taken) he (R .result) (R .ensures)
+    ∙ too-deep (A .end) (A .words .now) (L .stack) (L .tree) (L .i) (L .at) (L .m) (c .before .before .before .before .before .before .before .loop-test .taken) he (R .result) (R .ensures)
     (c .before .before .if2 .left) (O .result) (O .ensures) (c .if3 .taken)
 
 add-replace-top : tie.Need-add-replace-top Inv-loop μ-loop
@@ -104,8 +102,7 @@ loop-less c = search needs
 
 loop-again : tie.Need-loop-again Inv-loop μ-loop
 loop-again c =
-    let A = c .before .before .before .before .before .before .before .before .before .before .before .before .before .before .before .before .before
-    .before .before .before .args in
+    let A = c .before .before .before .before .before .before .before .before .before .before .before .before .before .before .before .before .before .before .before .before .args in
     let L = c .before .before .before .before .before .before .before .before .before .before .before .before .before .before .before .before .loop in
     let R = c .before .before .before .before .before .before .before .before .before .before .before .rule-for in
     let O = c .before .before .before .before .before .before .before .before .before .level-opened in

@@ -1,5 +1,5 @@
-use Rattle.reading.proofs.Tables.{entry}
-use Rattle.reading.specs.Codes.{rule-at}
+use mathlib.Core.Path.{refl}
+use Rattle.reading.specs.Codes.{rule-list}
 use borrow.Author.Needs.{needs}
 use Rattle.reading.proofs.rules.rule_at.Statement.{statement}
 use Rattle.reading.proofs.rules.rule_at.Tie as tie
@@ -11,7 +11,8 @@ array-read-result : tie.Need-array-read-result
 array-read-result c = search needs
 
 returns : tie.Need-returns
-returns c = entry rule-at 1148 (c .args .i) (c .pre)
+unfolding rule-list
+returns c = refl
 
 pub rule-at-spec : {M : Type 1} → statement M
 rule-at-spec = tie.close (tie.spec mul-result array-read-result returns)

@@ -1,5 +1,5 @@
 use mathlib.Core.Path.{refl}
-use borrow.Author.Tests.{eq-eqb, ne-eqb, lt-ltb, le-ltb}
+use borrow.Author.Tests.{le-leb, lt-leb}
 use Rattle.reading.specs.Steps.{rule-for}
 use borrow.Author.Needs.{needs}
 use Rattle.reading.proofs.rules.rule_for.Statement.{statement}
@@ -7,46 +7,41 @@ use Rattle.reading.proofs.rules.rule_for.Tie as tie
 
 returns : tie.Need-returns
 unfolding rule-for
-returns c = rw (lt-ltb _ _ (c .before .if1 .taken), eq-eqb _ 0 (c .if2 .taken)) refl
+returns c = rw (le-leb _ _ (c .if1 .taken)) refl
 
-mul-rule-at : tie.Need-mul-rule-at
-mul-rule-at c = search needs
+start-of-requires : tie.Need-start-of-requires
+start-of-requires c κs = search needs
 
-sub-rule-at : tie.Need-sub-rule-at
-sub-rule-at c = search needs
+cast-from : tie.Need-cast-from
+cast-from c = search needs
 
-add-rule-at : tie.Need-add-rule-at
-add-rule-at c = search needs
+add-start-of : tie.Need-add-start-of
+add-start-of c = search needs
 
-rule-at-requires : tie.Need-rule-at-requires
-rule-at-requires c κs = search needs
+start-of-requires-2 : tie.Need-start-of-requires-2
+start-of-requires-2 c κs = search needs
 
-cast-result : tie.Need-cast-result
-cast-result c = search needs
+cast-to : tie.Need-cast-to
+cast-to c = search needs
+
+find-requires : tie.Need-find-requires
+find-requires c κs = search needs
 
 returns-2 : tie.Need-returns-2
 unfolding rule-for
-returns-2 c = rw (lt-ltb _ _ (c .before .before .before .if1 .taken), ne-eqb _ 0 (c .before .before .if2 .left), lt-ltb _ _ (c .before .if3 .taken))
-    (c .rule-at .ensures)
-
-returns-3 : tie.Need-returns-3
-unfolding rule-for
-returns-3 c = rw (lt-ltb _ _ (c .before .before .if1 .taken), ne-eqb _ 0 (c .before .if2 .left), le-ltb _ _ (c .if3 .left)) refl
-
-returns-4 : tie.Need-returns-4
-unfolding rule-for
-returns-4 c = rw (le-ltb _ _ (c .if1 .left)) refl
+returns-2 c =
+    let low = lt-leb _ _ (c .before .before .before .if1 .left) in
+    rw (low, ← c .before .before .start-of .ensures, ← c .before .start-of2 .ensures) (c .find .ensures)
 
 pub rule-for-spec : {M : Type 1} → statement M
 rule-for-spec =
     tie.close
     (tie.spec
     returns
-    mul-rule-at
-    sub-rule-at
-    add-rule-at
-    rule-at-requires
-    cast-result
-    returns-2
-    returns-3
-    returns-4)
+    start-of-requires
+    cast-from
+    add-start-of
+    start-of-requires-2
+    cast-to
+    find-requires
+    returns-2)

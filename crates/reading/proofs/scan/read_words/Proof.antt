@@ -43,9 +43,7 @@ loop-less c =
     let A = c .before .before .before .before .before .before .before .before .before .before .before .before .before .args in
     let L = c .before .before .before .before .before .before .before .before .before .before .loop in
     let F = c .before .before .before .before .before .before .before .before .before .read-at in
-    let k = told-by (A .text .now) (L .at) (c .before .before .before .before .before .before .before .before .before .before .before .before
-    .before .pre) (F .result) _ (F .ensures) (sym (c .before .before .before .before .before .before .before .before .entry-of .ensures) ∙ c
-    .before .before .before .before .before .before .next .given .1) in
+    let k = told-by (A .text .now) (L .at) (c .before .before .before .before .before .before .before .before .before .before .before .before .before .pre) (F .result) _ (F .ensures) (sym (c .before .before .before .before .before .before .before .before .entry-of .ensures) ∙ c .before .before .before .before .before .before .next .given .1) in
     omega (arith, k .further, k .inside)
 
 loop-again : tie.Need-loop-again Inv-loop μ-loop
@@ -53,9 +51,7 @@ loop-again c =
     let A = c .before .before .before .before .before .before .before .before .before .before .before .before .before .args in
     let L = c .before .before .before .before .before .before .before .before .before .before .loop in
     let F = c .before .before .before .before .before .before .before .before .before .read-at in
-    let k = told-by (A .text .now) (L .at) (c .before .before .before .before .before .before .before .before .before .before .before .before
-    .before .pre) (F .result) _ (F .ensures) (sym (c .before .before .before .before .before .before .before .before .entry-of .ensures) ∙ c
-    .before .before .before .before .before .before .next .given .1) in (
+    let k = told-by (A .text .now) (L .at) (c .before .before .before .before .before .before .before .before .before .before .before .before .before .pre) (F .result) _ (F .ensures) (sym (c .before .before .before .before .before .before .before .before .entry-of .ensures) ∙ c .before .before .before .before .before .before .next .given .1) in (
       omega (arith, k .further),
       k .inside,
       search needs,
@@ -73,8 +69,7 @@ returns c =
     let A = c .before .before .before .before .before .before .before .before .args in
     let L = c .before .before .before .before .before .loop in
     let F = c .before .before .before .before .read-at in
-    let k = told-by (A .text .now) (L .at) (c .before .before .before .before .before .before .before .before .pre) (F .result) _ (F .ensures)
-    (sym (c .before .before .before .entry-of .ensures) ∙ c .before .enum-told .given .1) in
+    let k = told-by (A .text .now) (L .at) (c .before .before .before .before .before .before .before .before .pre) (F .result) _ (F .ensures) (sym (c .before .before .before .entry-of .ensures) ∙ c .before .enum-told .given .1) in
     L .inv .3 ∙ k (L .table) (L .n) (L .over) ∙ rw (le-leb _ _ (c .if1 .taken)) refl
 
 same-length-2 : tie.Need-same-length-2 Inv-loop μ-loop
@@ -85,8 +80,7 @@ returns-2 c =
     let A = c .before .before .before .before .before .before .before .before .args in
     let L = c .before .before .before .before .before .loop in
     let F = c .before .before .before .before .read-at in
-    let k = told-by (A .text .now) (L .at) (c .before .before .before .before .before .before .before .before .pre) (F .result) _ (F .ensures)
-    (sym (c .before .before .before .entry-of .ensures) ∙ c .before .enum-told .given .1) in
+    let k = told-by (A .text .now) (L .at) (c .before .before .before .before .before .before .before .before .pre) (F .result) _ (F .ensures) (sym (c .before .before .before .entry-of .ensures) ∙ c .before .enum-told .given .1) in
     L .inv .3 ∙ k (L .table) (L .n) (L .over) ∙ rw (lt-leb _ _ (c .if1 .left)) refl
 
 enum-known-next-2 : tie.Need-enum-known-next-2 Inv-loop μ-loop
@@ -100,8 +94,7 @@ returns-3 c =
     let A = c .before .before .before .before .before .before .before .before .args in
     let L = c .before .before .before .before .before .loop in
     let F = c .before .before .before .before .read-at in
-    let k = told-by (A .text .now) (L .at) (c .before .before .before .before .before .before .before .before .pre) (F .result) _ (F .ensures)
-    (sym (c .before .before .before .entry-of .ensures) ∙ c .before .next2 .given .1) in
+    let k = told-by (A .text .now) (L .at) (c .before .before .before .before .before .before .before .before .pre) (F .result) _ (F .ensures) (sym (c .before .before .before .entry-of .ensures) ∙ c .before .next2 .given .1) in
     L .inv .3 ∙ k (L .table) (L .n) (L .over)
 
 pub read-words-spec : {M : Type 1} → statement M
