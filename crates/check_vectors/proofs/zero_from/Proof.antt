@@ -1,8 +1,8 @@
 use Prim.Native.Nat.{_-_}
 use lib.ListN.{length}
 use borrow.Author.Needs.{needs}
-use Rattle.readcases.proofs.zero_from.Statement.{statement}
-use Rattle.readcases.proofs.zero_from.Tie as tie
+use Rattle.check_vectors.proofs.zero_from.Statement.{statement}
+use Rattle.check_vectors.proofs.zero_from.Tie as tie
 
 abbrev Inv-loop : tie.InvT-loop
 Inv-loop table from i₀ i = Unit {0}

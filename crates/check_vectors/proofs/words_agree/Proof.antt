@@ -1,8 +1,8 @@
 use Prim.Native.Nat.{_≤_, _-_}
 use lib.ListN.{length}
 use borrow.Author.Needs.{needs}
-use Rattle.readcases.proofs.words_agree.Statement.{statement}
-use Rattle.readcases.proofs.words_agree.Tie as tie
+use Rattle.check_vectors.proofs.words_agree.Statement.{statement}
+use Rattle.check_vectors.proofs.words_agree.Tie as tie
 
 abbrev Inv-loop : tie.InvT-loop
 Inv-loop tree words agree₀ left₀ i₀ agree left i = i ≤ length tree

@@ -1,7 +1,7 @@
 use Prim.Native.Nat.{_≤_, _-_}
 use borrow.Author.Needs.{needs}
-use Rattle.readcases.proofs.number_in.Statement.{statement}
-use Rattle.readcases.proofs.number_in.Tie as tie
+use Rattle.check_vectors.proofs.number_in.Statement.{statement}
+use Rattle.check_vectors.proofs.number_in.Tie as tie
 
 abbrev Inv-loop : tie.InvT-loop
 Inv-loop line n₀ i₀ n i = i ≤ 16

@@ -1,12 +1,12 @@
 use borrow.Author.Needs.{needs}
-use Rattle.readcases.proofs.main.Statement.{statement}
-use Rattle.readcases.proofs.main.Tie as tie
+use Rattle.check_vectors.proofs.main.Statement.{statement}
+use Rattle.check_vectors.proofs.main.Tie as tie
 
 abbrev Inv-loop : tie.InvT-loop
-Inv-loop text₀ tree₀ words₀ stack₀ tally₀ left₀ text tree words stack tally left = Unit {0}
+Inv-loop text₀ tree₀ words₀ stack₀ scopes₀ notes₀ tally₀ left₀ text tree words stack scopes notes tally left = Unit {0}
 
 abbrev μ-loop : tie.MeasureT-loop
-μ-loop text₀ tree₀ words₀ stack₀ tally₀ left₀ text tree words stack tally left = left
+μ-loop text₀ tree₀ words₀ stack₀ scopes₀ notes₀ tally₀ left₀ text tree words stack scopes notes tally left = left
 
 loop-holds : tie.Need-loop-holds Inv-loop μ-loop
 loop-holds c = search needs

@@ -1,9 +1,9 @@
-// Reading held against cases on standard input.
+// CHECK held against cases on standard input: the answer, its place, the tree, and the zeros that are left.
 //
 // A case is some lines of 16 hex digits and a script: the number and the place that are expected, the script's length, how many words its tree has; then the
-// script with a line end; then the tree's words. Where an accepted script comes with no words, its tree is not compared.
+// script with a line end; then the tree's words.
 use libc::STDOUT_FILENO;
-use reading::Outcome;
+use verdict::Verdict;
 
 struct Line {
     whole: bool,
@@ -106,22 +106,44 @@ fn zero_from(table: &[u64], from: usize) -> bool {
     true
 }
 
-fn answer_agrees(case: Case, outcome: Outcome) -> bool {
-    match outcome {
-        Outcome::Tree(count) => case.number == 0
-            && case.place == 0
-            && (case.words == 0 || case.words == count as u64),
-        Outcome::Refused(number, place) => case.number == number as u64
-            && case.place == place as u64,
+// An answer's number and place.
+struct Said {
+    number: u64,
+    place: u64,
+}
+
+fn told(answer: Verdict) -> Said {
+    match answer {
+        Verdict::Accepted => Said {
+            number: 0,
+            place: 0,
+        },
+        Verdict::Length => Said {
+            number: 1,
+            place: 0,
+        },
+        Verdict::Table => Said {
+            number: 3,
+            place: 0,
+        },
+        Verdict::Byte(place) => Said { number: 4, place },
+        Verdict::Number(place) => Said { number: 5, place },
+        Verdict::Tokens(place) => Said { number: 6, place },
+        Verdict::Syntax(place) => Said { number: 7, place },
+        Verdict::Level(place) => Said { number: 8, place },
+        Verdict::Type(place) => Said { number: 9, place },
     }
 }
 
 // Where the tree ends: none is left after a refusal. LENGTH leaves the table as it was, so that all of it may be the last case's tree.
-fn tree_end(outcome: Outcome, size: usize) -> usize {
-    match outcome {
-        Outcome::Tree(count) => count,
-        Outcome::Refused(number, _) => { if number == 1 { size } else { 0 } }
+fn tree_end(number: u64, words: u64, size: usize) -> usize {
+    if number == 1 {
+        return size;
     }
+    if number == 0 {
+        return words as usize;
+    }
+    0
 }
 
 fn try_case(
@@ -130,18 +152,23 @@ fn try_case(
     tree: &mut [u64],
     words: &mut [u64],
     stack: &mut [u64],
+    scopes: &mut [u64],
+    notes: &mut [u64],
 ) -> bool {
     let length = case.length;
     if text.len() < length {
         return false;
     }
-    let outcome = reading::read(&text[0..length], tree, words, stack);
+    let answer = told(verdict::check(&text[0..length], tree, words, stack, scopes, notes));
     let tree_agrees = words_agree(tree, case.words);
-    answer_agrees(case, outcome)
-        && tree_agrees
-        && zero_from(tree, tree_end(outcome, tree.len()))
+    tree_agrees
+        && answer.number == case.number
+        && answer.place == case.place
+        && zero_from(tree, tree_end(answer.number, case.words, tree.len()))
         && zero_from(words, 0)
         && zero_from(stack, 0)
+        && zero_from(scopes, 0)
+        && zero_from(notes, 0)
 }
 
 fn try_in(
@@ -150,11 +177,13 @@ fn try_in(
     tree: &mut [u64; 4096],
     words: &mut [u64; 4096],
     stack: &mut [u64; 4097],
+    scopes: &mut [u64; 4096],
+    notes: &mut [u64; 4096],
 ) -> bool {
     if !next_script(text, case.length) {
         return false;
     }
-    try_case(case, text, tree, words, stack)
+    try_case(case, text, tree, words, stack, scopes, notes)
 }
 
 fn counted(tally: Tally, agrees: bool) -> Tally {
@@ -185,6 +214,8 @@ fn main() {
     let mut tree = [0u64; 4096];
     let mut words = [0u64; 4096];
     let mut stack = [0u64; 4097];
+    let mut scopes = [0u64; 4096];
+    let mut notes = [0u64; 4096];
     let mut tally = Tally { tried: 0, agree: 0 };
     let mut left: u64 = 1_000_000;
     while 0 < left {
@@ -194,7 +225,15 @@ fn main() {
             return;
         }
         let case = next_case(line.number);
-        let agrees = try_in(case, &mut text, &mut tree, &mut words, &mut stack);
+        let agrees = try_in(
+            case,
+            &mut text,
+            &mut tree,
+            &mut words,
+            &mut stack,
+            &mut scopes,
+            &mut notes,
+        );
         tally = counted(tally, agrees);
         left -= 1;
     }
