@@ -8,19 +8,18 @@ use native.Mathlib.Numerals.{add-one}
 use native.Mathlib.Omega.{arith}
 use denote.Enum.Declared.{tagOf}
 use lib.Dec.{leb}
-use lib.IntN.{ℤ}
-use borrow.Author.Tests.{eq-eqb, ne-eqb, leb-true, leb-false, le-leb, lt-leb, lt-ltb, le-ltb, not-false}
+use borrow.Author.Tests.{ne-eqb, leb-true, leb-false, le-leb, lt-leb, lt-ltb, le-ltb, not-false}
 use Rattle.nodes.specs.declared.Node.{Node}
 use Rattle.nodes.specs.Nodes.{nodeAt}
 use Rattle.machine.specs.declared.Row.{Row}
 use Rattle.machine.specs.declared.Counts.{Counts}
 use Rattle.machine.specs.declared.Ending.{Ending}
 use Rattle.machine.specs.declared.Ending.the-variants.{Value, Stop, NoRule}
-use Rattle.machine.specs.Entries.{pick, rowAt, putRow, binding, putBinding, nodeOf, envOf}
+use Rattle.machine.specs.Entries.{pick, rowAt, putRow, binding, putBinding, closureWord, nodeOf, envOf}
 use Rattle.machine.specs.State.{Run, Tables, tables, Ret, is, onValue, andThen}
-use Rattle.machine.specs.Leaves.{Opened, isParam, bodyAfter, bindAll, enter, enterAgain, openFunction, openProcedure, define, defineCell}
+use Rattle.machine.specs.Leaves.{isParam, bodyAfter, bindAll, enter, enterAgain, openFunction, openProcedure, define, defineCell}
 use Rattle.machine.proofs.Ending.{the-type}
-use Rattle.entering.specs.Opening.{opened, withBindings}
+use Rattle.entering.specs.Opening.{opened, withBindings, definitionBy, definition, opens}
 
 -- n more fit under the limit where the limit less what is taken holds them
 pub room-some : (n taken limit : ℕ) → taken ≤ limit → leb n (limit - taken) ≡ leb (n + taken) limit
@@ -147,6 +146,15 @@ module _ (g : Run) (p n sp tag word : ℕ) (m : Tables) where
   unfolding openProcedure pick
   procedure-none h k = rw (ne-eqb tag 3 h, ne-eqb tag 4 k)
 
+module _ (g : Run) (form p n sp tag word : ℕ) (m : Tables) where
+  pub opens-function : form ≡ 23 → openFunction g p n sp tag word m ≡ opens g form p n sp tag word m
+  unfolding opens pick
+  opens-function h = rw h
+
+  pub opens-procedure : (form ≡ 23 → ⊥) → openProcedure g p n sp tag word m ≡ opens g form p n sp tag word m
+  unfolding opens pick
+  opens-procedure h = rw (ne-eqb form 23 h)
+
 -- ---- definitions
 
 module _ (g : Run) (p q : ℕ) (env : ℕ) (m : Tables) where
@@ -175,3 +183,38 @@ module _ (g : Run) (p q : ℕ) (env : ℕ) (m : Tables) where
   pub cell-full : g.bounds .cells ≤ m .counts .cells → is (Stop 22 p) m ≡ defineCell g p q env m
   unfolding defineCell pick
   cell-full h = rw (le-ltb _ _ h)
+
+module _ (g : Run) (env : ℕ) (n : Node) (m : Tables) where
+  pub definition-kind : (k : ℕ) → n .kind ≡ k → definitionBy g k env n m ≡ definition g env n m
+  unfolding definition
+  definition-kind k h = ap (λ (j : ℕ). definitionBy g j env n m) (sym h)
+
+  module _ (x : Node) (x-is : x ≡ nodeAt g.script.tree (n .child)) where
+    pub defines-function : n .kind ≡ 3 → (first word : ℕ) → first ≡ nodeAt g.script.tree (x .next) .next → word ≡ closureWord first env →
+        define g (n .place) (x .place) 1 word env m ≡ definition g env n m
+    unfolding definitionBy pick
+    defines-function h first word first-is word-is = rw (word-is, first-is, x-is) (definition-kind 3 h)
+
+    pub defines-named-function : n .kind ≡ 4 → (word : ℕ) → word ≡ closureWord (n .child) env →
+        define g (n .place) (x .place) 2 word env m ≡ definition g env n m
+    unfolding definitionBy pick
+    defines-named-function h word word-is = rw (word-is, x-is) (definition-kind 4 h)
+
+    pub defines-cell : n .kind ≡ 5 → defineCell g (n .place) (x .place) env m ≡ definition g env n m
+    unfolding definitionBy pick
+    defines-cell h = rw x-is (definition-kind 5 h)
+
+    pub defines-procedure : n .kind ≡ 6 → (word : ℕ) → word ≡ closureWord (x .next) env →
+        define g (n .place) (x .place) 3 word env m ≡ definition g env n m
+    unfolding definitionBy pick
+    defines-procedure h word word-is = rw (word-is, x-is) (definition-kind 6 h)
+
+    pub defines-named-procedure : n .kind ≡ 7 → (word : ℕ) → word ≡ closureWord (n .child) env →
+        define g (n .place) (x .place) 4 word env m ≡ definition g env n m
+    unfolding definitionBy pick
+    defines-named-procedure h word word-is = rw (word-is, x-is) (definition-kind 7 h)
+
+  pub defines-nothing : (n .kind ≡ 3 → ⊥) → (n .kind ≡ 4 → ⊥) → (n .kind ≡ 5 → ⊥) → (n .kind ≡ 6 → ⊥) → (n .kind ≡ 7 → ⊥) →
+      is NoRule m ≡ definition g env n m
+  unfolding definition definitionBy pick
+  defines-nothing h₃ h₄ h₅ h₆ h₇ = rw (ne-eqb _ 3 h₃, ne-eqb _ 4 h₄, ne-eqb _ 5 h₅, ne-eqb _ 6 h₆, ne-eqb _ 7 h₇)

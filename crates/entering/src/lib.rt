@@ -4,18 +4,22 @@ use machine::Bounds;
 use machine::Counts;
 use machine::Ending;
 use machine::Evaluated;
+use nodes::Node;
 use stores::ADDRESS;
 use stores::DONE;
+use stores::FUNCTION;
+use stores::PROCEDURE;
+use stores::RECURSIVE_FUNCTION;
+use stores::RECURSIVE_PROCEDURE;
 use stores::UNSET;
 ghost use mathlib.Core.Path.{_≡_};
-ghost use mathlib.Core.Bool.{Bool};
 ghost use mathlib.Core.List.{List};
 ghost use Prim.Native.Nat.{ℕ, suc, _+_, _≤_};
 ghost use lib.Dec.{leb};
 ghost use lib.IntN.{ℤ};
 ghost use Rattle.machine.specs.State.{running, tables, ret};
 ghost use Rattle.machine.specs.Leaves.{isParam, bodyAfter, bindAll, enter, enterAgain, openFunction, openProcedure, define, defineCell};
-ghost use Rattle.entering.specs.Opening.{opened, withBindings};
+ghost use Rattle.entering.specs.Opening.{opened, withBindings, definition, opens};
 
 // ---- room under the limit of bindings
 
@@ -221,7 +225,7 @@ fn enter_named(
 }
 
 // The value `tag`, `word` is applied: only a function can be. Behind a name that a closure knows stand a type and the parameters.
-pub fn open_function(
+fn open_function(
     tree: &[u64],
     bindings: &mut [u64],
     waiting: &[u64],
@@ -279,7 +283,7 @@ pub fn open_function(
 }
 
 // The value `tag`, `word` is called: only a procedure can be.
-pub fn open_procedure(
+fn open_procedure(
     tree: &[u64],
     bindings: &mut [u64],
     waiting: &[u64],
@@ -332,6 +336,34 @@ pub fn open_procedure(
             ending: Ending::NoRule,
             counts,
         },
+    }
+}
+
+// A value applied by an application (23) or a CALL: the environment and the body's node.
+pub fn open_value(
+    tree: &[u64],
+    bindings: &mut [u64],
+    waiting: &[u64],
+    bounds: Bounds,
+    counts: Counts,
+    form: u64,
+    p: u64,
+    n: u64,
+    sp: u64,
+    tag: u64,
+    word: u64,
+) -> Evaluated
+    requires { ⌜ bounds .bindings ≤ 4096 ⌝ }
+    requires { ⌜ sp ≤ 204800 ⌝ }
+    ensures { λ r. ⌜ ((v c : List ℕ) (o : List ℤ) → ret r (now (bindings .exit)) c o (now (waiting .entry)) ≡
+        opens (running (now (tree .entry)) v bounds) form p n sp tag word
+        (tables counts (now (bindings .entry)) c o (now (waiting .entry)))) ⌝ }
+    ensures { λ r. ⌜ r .counts .units ≡ counts .units ⌝ }
+{
+    if form == 23 {
+        open_function(tree, bindings, waiting, bounds, counts, p, n, sp, tag, word)
+    } else {
+        open_procedure(tree, bindings, waiting, bounds, counts, p, n, sp, tag, word)
     }
 }
 
@@ -409,5 +441,84 @@ pub fn bind_cell(
             ending: Ending::Stop(22, p),
             counts,
         }
+    }
+}
+
+// A definition that evaluates nothing: FUN, FUN REC, VAR, PROC, PROC REC. A closure is known by its first parameter, or by its name where it knows that.
+pub fn plain_definition(
+    tree: &[u64],
+    bindings: &mut [u64],
+    cells: &mut [u64],
+    bounds: Bounds,
+    counts: Counts,
+    env: u64,
+    n: Node,
+) -> Evaluated
+    requires { ⌜ bounds .bindings ≤ 4096 ⌝ }
+    ensures { λ r. ⌜ ((v w : List ℕ) (o : List ℤ) → ret r (now (bindings .exit)) (now (cells .exit)) o w ≡
+        definition (running (now (tree .entry)) v bounds) env n (tables counts (now (bindings .entry)) (now (cells .entry)) o w)) ⌝ }
+    ensures { λ r. ⌜ r .counts .units ≡ counts .units ⌝ }
+{
+    let name = nodes::node_at(tree, n.child);
+    let kind = n.kind;
+    match kind {
+        3 => {
+            let first = nodes::next_at(tree, name.next);
+            let word = stores::closure_word(first, env);
+            bind_name(
+                bindings,
+                bounds,
+                counts,
+                n.place,
+                name.place,
+                FUNCTION,
+                word,
+                env,
+            )
+        }
+        4 => {
+            let word = stores::closure_word(n.child, env);
+            bind_name(
+                bindings,
+                bounds,
+                counts,
+                n.place,
+                name.place,
+                RECURSIVE_FUNCTION,
+                word,
+                env,
+            )
+        }
+        5 => bind_cell(bindings, cells, bounds, counts, n.place, name.place, env),
+        6 => {
+            let word = stores::closure_word(name.next, env);
+            bind_name(
+                bindings,
+                bounds,
+                counts,
+                n.place,
+                name.place,
+                PROCEDURE,
+                word,
+                env,
+            )
+        }
+        7 => {
+            let word = stores::closure_word(n.child, env);
+            bind_name(
+                bindings,
+                bounds,
+                counts,
+                n.place,
+                name.place,
+                RECURSIVE_PROCEDURE,
+                word,
+                env,
+            )
+        }
+        _ => Evaluated {
+            ending: Ending::NoRule,
+            counts,
+        },
     }
 }

@@ -3,13 +3,14 @@ use mathlib.Core.Path.{_≡_, refl, sym, ap, _∙_}
 use mathlib.Core.Bool.{Bool, true, false, cond}
 use mathlib.Core.List.{List, [], _∷_}
 use mathlib.Core.Logic.{_⊎_, ⊎-elim}
-use Prim.Native.Nat.{ℕ, suc, _+_, _-_}
+use Prim.Native.Nat.{ℕ, suc, _+_, _-_, _≤_, _<_}
+use native.Mathlib.Numerals.{add-one}
 use native.Mathlib.Omega.{arith}
-use borrow.Author.Tests.{eq-eqb, ne-eqb}
+use borrow.Author.Tests.{eq-eqb, ne-eqb, lt-ltb, le-ltb}
 use denote.Enum.Declared.{tagOf}
 use lib.Dec.{eqb}
 use lib.IntN.{ℤ, pos, negℤ}
-use lib.ListN.{drop, length}
+use lib.ListN.{drop, set}
 use mir.Syntax.{w64}
 use mir.Val.{toZ, ofZ, SFits}
 use mir.Facts.{toZ-ofZ}
@@ -17,20 +18,22 @@ use Rattle.language.specs.Numbers.{Computed, amount, ranged}
 use Rattle.language.specs.Words.{isDigit, stretch, decimal, nameAt}
 use Rattle.language.specs.Bytes.{same-bytes}
 use Rattle.language.specs.Names.{meaning}
+use Rattle.nodes.specs.declared.Node.{Node}
 use Rattle.machine.specs.declared.Binding.{Binding}
+use Rattle.machine.specs.declared.Counts.{Counts}
 use Rattle.machine.specs.declared.Ending.{Ending}
 use Rattle.machine.specs.declared.Ending.the-variants.{Value, Stop, NoRule}
 use Rattle.machine.specs.Entries.{pick, bindingAt}
-use Rattle.machine.specs.State.{ifValue}
+use Rattle.machine.specs.State.{Run, Tables, tables, is, ifValue}
 use Rattle.machine.specs.Leaves.{meaningAt, sameName, walk}
 use Rattle.machine.proofs.Ending.{the-type}
+use Rattle.stores.specs.Choices.{plainBy, plainValue, echoed}
 use Rattle.nodes.specs.Names.{meaningNo}
 use Rattle.nodes.specs.Written.{numberFrom, numberAt}
 use Rattle.amounts.specs.Amounts.{computed}
 use Rattle.amounts.specs.Signs.{signed}
 use Rattle.amounts.specs.Written.{written, written-from, number-front, readNumber}
 use Rattle.amounts.specs.declared.Amount.{Amount}
-use Rattle.amounts.specs.declared.Amount.the-variants.{Is, Range}
 use Rattle.amounts.specs.declared.Read.{Read}
 use Rattle.amounts.specs.declared.Read.the-variants.{Number, Not}
 use Rattle.amounts.proofs.Range.{computed-written}
@@ -107,3 +110,34 @@ number-read text i end a e = sym (ap found e) ∙ number-found i (drop i text)
 pub number-not : (text : List ℕ) (i : ℕ) → readNumber text i ≡ Not → amount (pos 0) ≡ ranged (numberAt text i)
 unfolding numberAt
 number-not text i e = sym (ap found e) ∙ number-found i (drop i text)
+
+-- ---- what follows a value
+
+module _ (tree text b c : List ℕ) (counts : Counts) (env : ℕ) (n : Node) where
+  pub plain-kind : (k : ℕ) → n .kind ≡ k → plainBy k tree text b c counts env n ≡ plainValue tree text b c counts env n
+  unfolding plainValue
+  plain-kind k h = ap (λ (j : ℕ). plainBy j tree text b c counts env n) (sym h)
+
+  pub plain-none : (n .kind ≡ 18 → ⊥) → (n .kind ≡ 19 → ⊥) → (n .kind ≡ 24 → ⊥) → (n .kind ≡ 25 → ⊥) → NoRule ≡ plainValue tree text b c counts env n
+  unfolding plainValue plainBy pick
+  plain-none h₁ h₂ h₃ h₄ = rw (ne-eqb _ 18 h₁, ne-eqb _ 19 h₂, ne-eqb _ 24 h₃, ne-eqb _ 25 h₄)
+
+module _ (g : Run) (p env tag word : ℕ) (m : Tables) where
+  pub echoed-none : (tag ≡ 0 → ⊥) → is NoRule m ≡ echoed g p env tag word m
+  unfolding echoed pick
+  echoed-none h = rw (ne-eqb tag 0 h)
+
+  pub echoed-full : tag ≡ 0 → g.bounds .output ≤ m .counts .numbers → is (Stop 24 p) m ≡ echoed g p env tag word m
+  unfolding echoed pick
+  echoed-full h l = rw (eq-eqb tag 0 h, le-ltb _ _ l)
+
+  pub echoed-some : tag ≡ 0 → m .counts .numbers < g.bounds .output → (o : List ℤ) (z : ℤ) → o ≡ set (m .output) (m .counts .numbers) z → z ≡ toZ w64 word →
+      is (Value 7 env)
+      (tables
+      (record { units = m .counts .units; bindings = m .counts .bindings; cells = m .counts .cells; numbers = m .counts .numbers + 1 })
+      (m .bindings)
+      (m .cells)
+      o
+      (m .waiting)) ≡ echoed g p env tag word m
+  unfolding echoed pick
+  echoed-some h l o z o-is z-is = rw (eq-eqb tag 0 h, lt-ltb _ _ l, o-is, z-is, add-one (m .counts .numbers))

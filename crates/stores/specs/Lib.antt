@@ -1,1 +1,1 @@
--- The crate's definitions: none of its own.
+pub mod Choices

@@ -3,16 +3,26 @@
 use amounts::Amount;
 use amounts::Read;
 use machine::Binding;
+use machine::Bounds;
+use machine::Counts;
 use machine::Ending;
+use machine::Evaluated;
 use machine::Row;
+use nodes::Node;
 ghost use mathlib.Core.Path.{_≡_};
-ghost use Prim.Native.Nat.{_≤_};
+ghost use mathlib.Core.List.{List};
+ghost use Prim.Native.Nat.{ℕ, _≤_};
+ghost use lib.IntN.{ℤ};
 ghost use lib.ListN.{getD, set};
 ghost use Rattle.language.specs.Numbers.{bit};
 ghost use Rattle.amounts.specs.Amounts.{computed};
 ghost use Rattle.machine.specs.Entries.{rowAt, putRow, bindingAt, putBinding, closureWord, nodeOf, envOf};
+ghost use Rattle.machine.specs.State.{running, tables, ret};
+ghost use Rattle.machine.specs.declared.Bounds.{Bounds};
+ghost use Rattle.machine.specs.Machine.{operatorAt};
 ghost use Rattle.machine.specs.Leaves.{walk, boundTo, addressOf, readThrough, nameValue};
 ghost use Rattle.machine.specs.Leaves.{given, numeralAt, computedBy, negated, combined, operate};
+ghost use Rattle.stores.specs.Choices.{isBit, bitAnswer, branchOf, roundEnd, plainValue, echoed, stored};
 
 // What a value is.
 pub const NUMBER: u64 = 0;
@@ -314,4 +324,166 @@ pub fn applied(operator: u64, p: u64, n: u64, sp: u64, waiting: &[u64]) -> Endin
     }
     let second = row_at(waiting, sp + 1);
     combination(operator, p, n, first, second)
+}
+
+// ---- what follows a value that was found
+
+// Is the value this bit, 0 or 1?
+pub fn is_bit(tag: u64, word: u64, bit: u64) -> bool
+    ensures { λ r. ⌜ r ≡ isBit tag word bit ⌝ }
+{
+    tag == NUMBER && word == bit
+}
+
+// A bit as an answer.
+pub fn bit_answer(tag: u64, word: u64) -> Ending
+    ensures { λ r. ⌜ r ≡ bitAnswer tag word ⌝ }
+{
+    if is_bit(tag, word, 0) {
+        return Ending::Value(NUMBER, 0);
+    }
+    if is_bit(tag, word, 1) {
+        return Ending::Value(NUMBER, 1);
+    }
+    Ending::NoRule
+}
+
+// The branch that a bit chooses: the node `first` for 1, and the one behind it for 0.
+pub fn branch(tree: &[u64], first: u64, tag: u64, word: u64) -> Ending
+    ensures { λ r. ⌜ r ≡ branchOf (now (tree .entry)) first tag word ⌝ }
+{
+    if is_bit(tag, word, 1) {
+        return Ending::Value(DONE, first);
+    }
+    if is_bit(tag, word, 0) {
+        return Ending::Value(DONE, nodes::next_at(tree, first));
+    }
+    Ending::NoRule
+}
+
+// The end of a WHILE whose condition is no 1.
+pub fn round_end(tag: u64, word: u64, env: u64) -> Ending
+    ensures { λ r. ⌜ r ≡ roundEnd tag word env ⌝ }
+{
+    if is_bit(tag, word, 0) {
+        return Ending::Value(DONE, env);
+    }
+    Ending::NoRule
+}
+
+// The operator that the node `i` is; below 3: none.
+pub fn operator_at(tree: &[u64], text: &[u8], i: u64) -> u64
+    ensures { λ r. ⌜ ((b : Bounds) → r ≡ operatorAt (running (now (tree .entry)) (now (text .entry)) b) i) ⌝ }
+{
+    let head = nodes::node_at(tree, i);
+    let kind = head.kind;
+    if kind == 19 {
+        return nodes::meaning_at(text, head.place);
+    }
+    0
+}
+
+// An expression that evaluates no other: a number, a name, an abstraction, the address of a cell.
+pub fn plain_value(
+    tree: &[u64],
+    text: &[u8],
+    bindings: &[u64],
+    cells: &[u64],
+    counts: Counts,
+    env: u64,
+    n: Node,
+) -> Ending
+    ensures { λ r. ⌜ r ≡ plainValue (now (tree .entry)) (now (text .entry)) (now (bindings .entry)) (now (cells .entry)) counts env n ⌝ }
+{
+    let kind = n.kind;
+    match kind {
+        18 => numeral_at(text, n.place),
+        19 => name_value(
+            text,
+            bindings,
+            cells,
+            n.place,
+            counts.bindings,
+            counts.cells,
+            env,
+        ),
+        24 => Ending::Value(FUNCTION, closure_word(n.child, env)),
+        25 => address_of(
+            text,
+            bindings,
+            nodes::place_at(tree, n.child),
+            counts.bindings,
+            env,
+        ),
+        _ => Ending::NoRule,
+    }
+}
+
+// The ECHO at `p` puts this value out.
+pub fn put_out(
+    output: &mut [i64],
+    bounds: Bounds,
+    counts: Counts,
+    p: u64,
+    tag: u64,
+    word: u64,
+    env: u64,
+) -> Evaluated
+    ensures { λ r. ⌜ ((t v b c w : List ℕ) → ret r b c (now (output .exit)) w ≡
+        echoed (running t v bounds) p env tag word (tables counts b c (now (output .entry)) w)) ⌝ }
+    ensures { λ r. ⌜ r .counts .units ≡ counts .units ⌝ }
+{
+    if tag != NUMBER {
+        return Evaluated {
+            ending: Ending::NoRule,
+            counts,
+        };
+    }
+    let k = counts.numbers;
+    let limit = bounds.output;
+    if k >= limit {
+        return Evaluated {
+            ending: Ending::Stop(24, p),
+            counts,
+        };
+    }
+    put_number(output, k, amounts::from_word(word));
+    let after = Counts {
+        units: counts.units,
+        bindings: counts.bindings,
+        cells: counts.cells,
+        numbers: k + 1,
+    };
+    Evaluated {
+        ending: Ending::Value(DONE, env),
+        counts: after,
+    }
+}
+
+// SET stores this value in a cell.
+pub fn store_cell(
+    cells: &mut [u64],
+    counts: Counts,
+    cell: u64,
+    tag: u64,
+    word: u64,
+    env: u64,
+) -> Evaluated
+    ensures { λ r. ⌜ ((b w : List ℕ) (o : List ℤ) → ret r b (now (cells .exit)) o w ≡
+        stored cell tag word env (tables counts b (now (cells .entry)) o w)) ⌝ }
+    ensures { λ r. ⌜ r .counts .units ≡ counts .units ⌝ }
+{
+    let taken = counts.cells;
+    if cell < taken {
+        put_row(cells, cell, tag, word);
+        Evaluated {
+            ending: Ending::Value(DONE, env),
+            counts,
+        }
+    } else {
+        Evaluated {
+            ending: Ending::NoRule,
+            counts,
+        }
+    }
 }

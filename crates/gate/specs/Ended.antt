@@ -1,0 +1,32 @@
+-- What a run of the evaluator is reported as.
+use Prim.Native.Nat.{ℕ, _-_}
+use lib.Dec.{eqb}
+use Rattle.machine.specs.Entries.{pick}
+use Rattle.machine.specs.declared.Ending.{Ending}
+use Rattle.machine.specs.declared.Ending.the-variants.{Value, Stop, NoRule}
+use Rattle.machine.specs.declared.Counts.{Counts}
+use Rattle.gate.specs.declared.Answer.{Answer}
+use Rattle.gate.specs.declared.Answer.the-variants.{Done, Fuel, Depth, Cells, Bindings, Output, Range, Zero, Unset}
+use Rattle.gate.specs.declared.Report.{Report}
+
+-- a stop by its number
+unfoldable pub stopped-by : ℕ → ℕ → Answer
+stopped-by n p =
+    pick (eqb n 20) (λ _. Fuel p) λ _.
+    pick (eqb n 21) (λ _. Depth p) λ _.
+    pick (eqb n 22) (λ _. Cells p) λ _.
+    pick (eqb n 23) (λ _. Bindings p) λ _.
+    pick (eqb n 24) (λ _. Output p) λ _.
+    pick (eqb n 25) (λ _. Range p) λ _.
+    pick (eqb n 26) (λ _. Zero p) λ _.
+    Unset p
+
+-- a state that no rule fits has no answer: an accepted text never comes to one
+abbrev pub ended : Ending → Answer
+ended (Value t x) = Done
+ended (Stop n p) = stopped-by n p
+ended NoRule = Done
+
+-- with so much fuel at the start
+abbrev pub reported : (fuel : ℕ) → Ending → Counts → Report
+reported f e n = record { answer = ended e; units = f - n .units; bindings = n .bindings; cells = n .cells; numbers = n .numbers }

@@ -1,0 +1,4 @@
+pub mod Answers
+pub mod Lent
+pub mod Ended
+pub mod Steps

@@ -1,0 +1,3 @@
+pub mod Laws
+pub mod Values
+pub mod Commands

@@ -1,0 +1,51 @@
+-- Parts of the evaluator's definition that evaluate nothing: what follows a value that was found, and expressions that stand by themselves.
+use Prim.Native.Nat.{ℕ}
+use mathlib.Core.Bool.{Bool, false}
+use mathlib.Core.List.{List}
+use lib.Dec.{eqb, ltb}
+use mir.Syntax.{w64}
+use mir.Val.{toZ}
+use Rattle.nodes.specs.declared.Node.{Node}
+use Rattle.nodes.specs.Nodes.{nodeAt}
+use Rattle.machine.specs.declared.Counts.{Counts}
+use Rattle.machine.specs.declared.Ending.{Ending}
+use Rattle.machine.specs.declared.Ending.the-variants.{Value, Stop, NoRule}
+use Rattle.machine.specs.Entries.{pick, number-tag, function-tag, done-tag, closureWord}
+use Rattle.machine.specs.State.{Run, Tables, Ret, is, store, putOut}
+use Rattle.machine.specs.Leaves.{numeralAt, nameValue, addressOf}
+
+unfoldable pub isBit : (tag word bit : ℕ) → Bool
+isBit t x b = pick (eqb t number-tag) (λ _. eqb x b) λ _. false
+
+unfoldable pub bitAnswer : (tag word : ℕ) → Ending
+bitAnswer t x = pick (isBit t x 0) (λ _. Value number-tag 0) λ _. pick (isBit t x 1) (λ _. Value number-tag 1) λ _. NoRule
+
+-- the node i for 1, and the one behind it for 0
+unfoldable pub branchOf : (tree : List ℕ) (i tag word : ℕ) → Ending
+branchOf tree i t x = pick (isBit t x 1) (λ _. Value done-tag i) λ _. pick (isBit t x 0) (λ _. Value done-tag (nodeAt tree i .next)) λ _. NoRule
+
+unfoldable pub roundEnd : (tag word env : ℕ) → Ending
+roundEnd t x env = pick (isBit t x 0) (λ _. Value done-tag env) λ _. NoRule
+
+-- by the kind k of the node n
+unfoldable pub plainBy : (k : ℕ) (tree text bindings cells : List ℕ) → Counts → (env : ℕ) → Node → Ending
+plainBy k tree text b c counts env n =
+    pick (eqb k 18) (λ _. numeralAt text (n .place)) λ _.
+    pick (eqb k 19) (λ _. nameValue text b c (n .place) (counts .bindings) (counts .cells) env) λ _.
+    pick (eqb k 24) (λ _. Value function-tag (closureWord (n .child) env)) λ _.
+    pick (eqb k 25) (λ _. addressOf text b (nodeAt tree (n .child) .place) (counts .bindings) env) λ _.
+    NoRule
+
+unfoldable pub plainValue : (tree text bindings cells : List ℕ) → Counts → (env : ℕ) → Node → Ending
+plainValue tree text b c counts env n = plainBy (n .kind) tree text b c counts env n
+
+-- the value t x goes out, for the ECHO at p
+unfoldable pub echoed : Run → (p env tag word : ℕ) → Tables → Ret
+echoed g p env t x m =
+    pick (eqb t number-tag) (λ _.
+    pick (ltb (m .counts .numbers) (g.bounds .output)) (λ _. is (Value done-tag env) (putOut (toZ w64 x) m)) λ _. is (Stop 24 p) m)
+    λ _. is NoRule m
+
+-- the value t x is stored in the cell a
+unfoldable pub stored : (a tag word env : ℕ) → Tables → Ret
+stored a t x env m = pick (ltb a (m .counts .cells)) (λ _. is (Value done-tag env) (store a t x m)) λ _. is NoRule m
