@@ -16,8 +16,8 @@ use Rattle.language.specs.Typing.{Typable}
 use Rattle.language.specs.Rules.{stop, no-rule, Outcome, ok, halt, bind, need, within, level, run}
 use Rattle.language.specs.Outcome.{end-of}
 use Rattle.language.specs.Promises.{Verdict, typed}
-use Rattle.language.specs.Claims.{AcceptedExactly, OneVerdict, OneTree, OneLevels, TreeFits, TypedOrRefused, UniqueTypes, Levels128, NoRule, NeverStuck, EndsByTheTable, SameUnderLargerLimits, NumbersBegin, CountsInLimits, LimitIsUsedUp, WhileRule, NoRuleIsReached, OneCheck, OneRun, DeskHolds}
-use Rattle.language.proofs.reading.Shown.{one-tree, levels-once, room}
+use Rattle.language.specs.Claims.{AcceptedExactly, OneVerdict, OneTree, OneLevels, TreeFits, InTextOrder, TypedOrRefused, UniqueTypes, Levels128, NoRule, NeverStuck, EndsByTheTable, SameUnderLargerLimits, NumbersBegin, CountsInLimits, LimitIsUsedUp, WhileRule, NoRuleIsReached, OneCheck, OneRun, DeskHolds}
+use Rattle.language.proofs.reading.Shown.{one-tree, levels-once, room, in-text-order}
 use Rattle.language.proofs.typing.Unique.{unique-types}
 use Rattle.language.proofs.typing.Judged.{one-verdict}
 use Rattle.language.proofs.typing.Levels128.{types-fit-128}
@@ -53,6 +53,9 @@ one-levels-claim = levels-once
 
 pub tree-fits : TreeFits
 tree-fits = room
+
+pub nodes-in-text-order : InTextOrder
+nodes-in-text-order = in-text-order
 
 pub typed-or-refused : TypedOrRefused
 typed-or-refused = one-verdict

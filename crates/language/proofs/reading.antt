@@ -13,6 +13,7 @@ pub mod Answer
 pub mod Bounded
 pub mod Fits
 pub mod Payload
+pub mod TextOrder
 pub mod Kept
 pub mod Shown
 pub mod Examples

@@ -1,11 +1,11 @@
 -- What is claimed of the language, each claim as a type with a sentence; proofs/Claims.antt proves each.
-use Rattle.language.specs.Library.{_≡_, _↔_, _⊎_, ℕ, zero, suc, _≤_, ℤ, List, [], _∷_, _++_, length, some}
+use Rattle.language.specs.Library.{_≡_, _↔_, _⊎_, ℕ, zero, suc, _≤_, ℤ, List, [], _∷_, _++_, map, length, some}
 use Rattle.language.specs.Syntax.{at, Expr, name, last, echo, while, Block, block}
 use Rattle.language.specs.Bytes.{bytesOf}
 use Rattle.language.specs.Answers.{FUEL, DEPTH, CELLS, BINDINGS, OUTPUT, Stop, limit, error, done, stopped, Result, fine}
 use Rattle.language.specs.Words.{Word, wordsOf, most}
 use Rattle.language.specs.Grammar.{BLOCK, Reads}
-use Rattle.language.specs.Table.{table}
+use Rattle.language.specs.Table.{none, shapeBlock, Node, node, enc, table}
 use Rattle.language.specs.Levels.{levels, deepest}
 use Rattle.language.specs.Reading.{Opens, Within, Reading}
 use Rattle.language.specs.Types.{Ty, base, fn, Tys, tnil, tcons, Ctx}
@@ -40,6 +40,17 @@ OneLevels = (pre : List Word) (ls ms : List ℕ) → Opens pre ls → Opens pre 
 -- The tree of a text that is read has room in the tree table.
 abbrev pub TreeFits : Type 0
 TreeFits = (s : List ℕ) (b : Block) → Reading s (fine b) → length (table b) ≤ tree-words
+
+abbrev pub place-of-node : Node → ℕ
+place-of-node (node k p c s) = p
+
+pub data Rising : ℕ → List ℕ → Type 0 where  -- each is larger than the one before it; the first is at least the number given
+  end : {i : ℕ} → Rising i []
+  next : {i p : ℕ} {l : List ℕ} → i ≤ p → Rising (suc p) l → Rising i (p ∷ l)
+
+-- The nodes of a text that is read are numbered in text order, and no two share a first word: their places rise.
+abbrev pub InTextOrder : Type 0
+InTextOrder = (s : List ℕ) (b : Block) → Reading s (fine b) → Rising 0 (map place-of-node (enc (shapeBlock b none) 0))
 
 -- A tree is typed, or refused at one place, and never both.
 abbrev pub TypedOrRefused : Type 0

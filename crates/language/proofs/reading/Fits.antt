@@ -28,7 +28,7 @@ one-node (Machine.leaf k) p q t = omega (arith, length-append (link q (length t)
 one-node (Machine.fork k) p q t = omega (arith, length-append (link q (length t) t) (node k p (suc (length t)) 0 ∷ []), length-link q (length t) t)
 one-node (Machine.turn k) p q t = omega (arith, length-retype k t)
 
-done-table : {t t′ : List Node} {o o′ : List ℕ} → through t o ≡ through t′ o′ → t ≡ t′
+pub done-table : {t t′ : List Node} {o o′ : List ℕ} → through t o ≡ through t′ o′ → t ≡ t′
 done-table e = cc
 
 few-nodes : (ts : List Word) (s : List Entry) (t : List Node) (f : List ℕ → List ℕ) (t′ : List Node) (o : List ℕ) → parse ts s t f ≡ through t′ o → length t′ ≤ length t + length ts

@@ -58,7 +58,7 @@ symbol-right i b n w m e = go (mark-of symbols (b ∷ [])) e
     go none e′ = absurd (not-word (bad BYTE) e′)
     go (some k) e′ = subst (Right i n) (same-word e′) refl
 
-front-right : (i b : ℕ) (s : List ℕ) (w : Word) (m : ℕ) → front i b s ≡ word w m → Right i (nameFrom (b ∷ s)) w
+pub front-right : (i b : ℕ) (s : List ℕ) (w : Word) (m : ℕ) → front i b s ≡ word w m → Right i (nameFrom (b ∷ s)) w
 front-right i b s w m e = go (isSep b) (isLetter b) (isDigit b) (eqb b 45) e
   where
     go : (t u v x : Bool)
@@ -74,7 +74,7 @@ abbrev pub All : (Word → Type 0) → List Word → Type 0
 All P [] = Unit {0}
 All P (x ∷ ts) = P x × All P ts
 
-right-place : (i : ℕ) (n : Name) (w : Word) → Right i n w → place-word w ≡ i
+pub right-place : (i : ℕ) (n : Name) (w : Word) → Right i n w → place-word w ≡ i
 right-place i n (mark m p) h = h
 right-place i n (number p z) h = h
 right-place i n (named (at p x)) h = h .0
@@ -90,10 +90,10 @@ stands text i b s w m d e =
       begins = subst (λ (j : ℕ). front j b s ≡ word w m) p e;
     }
 
-same-words : {a b : List Word} → fine a ≡ fine b → a ≡ b
+pub same-words : {a b : List Word} → fine a ≡ fine b → a ≡ b
 same-words e = cc
 
-not-are : {ts : List Word} {n : Refusal} {p : ℕ} → refuse n p ≡ fine ts → ⊥
+pub not-are : {ts : List Word} {n : Refusal} {p : ℕ} → refuse n p ≡ fine ts → ⊥
 not-are e = subst (λ (w : (Result (List Word))). elim w as (λ _. Type 0) [ fine l ↦ ⊥ | refuse n p ↦ Unit {0} ]) e tt
 
 step : (text : List ℕ) (i b : ℕ) (s : List ℕ) → drop i text ≡ b ∷ s → drop (i + 1) text ≡ s

@@ -1,6 +1,6 @@
 -- What is shown of reading.
 use mathlib.Core.Path.{sym, _∙_, _≡_}
-use mathlib.Core.List.{List, []}
+use mathlib.Core.List.{List, [], map}
 use Prim.Native.Nat.{ℕ, _≤_}
 use native.Mathlib.Omega.{arith}
 use lib.ListN.{length}
@@ -8,13 +8,15 @@ use Rattle.language.specs.Syntax.{Block}
 use Rattle.language.specs.Answers.{Result, fine}
 use Rattle.language.specs.Words.{Word, most}
 use Rattle.language.specs.Grammar.{BLOCK, Reads}
-use Rattle.language.specs.Table.{table}
+use Rattle.language.specs.Table.{none, shapeBlock, enc, table}
 use Rattle.language.specs.Reading.{Opens, Reading, a-program}
+use Rattle.language.specs.Claims.{Rising, place-of-node}
 use Rattle.language.proofs.reading.Reader.{read}
 use Rattle.language.proofs.reading.Standing.{Stands, inBlock}
 use Rattle.language.proofs.reading.First.{reached, begins, one-levels}
 use Rattle.language.proofs.reading.Fits.{few-words}
 use Rattle.language.proofs.reading.Payload.{words-stand}
+use Rattle.language.proofs.reading.TextOrder.{nodes-rise}
 use Rattle.language.proofs.reading.Kept.{tree-keeps}
 use Rattle.language.proofs.reading.One as One
 use Rattle.language.proofs.reading.Answer as Answers
@@ -41,6 +43,13 @@ room-of (a-program e h r w) = let n = few-words r in omega (arith, n, h)
 -- An accepted text's tree table has room in 4,096 words.
 pub room : (s : List ℕ) (b : Block) → Reading s (fine b) → length (table b) ≤ most
 room s b h = room-of h
+
+in-text-order-of : (s : List ℕ) {b : Block} → Reading s (fine b) → Rising 0 (map place-of-node (enc (shapeBlock b none) 0))
+in-text-order-of s (a-program {ts} e h r w) = nodes-rise s ts e r
+
+-- Its nodes are numbered in text order, and no two share a first word.
+pub in-text-order : (s : List ℕ) (b : Block) → Reading s (fine b) → Rising 0 (map place-of-node (enc (shapeBlock b none) 0))
+in-text-order s b h = in-text-order-of s h
 
 in-place-of : (s : List ℕ) {b : Block} → Reading s (fine b) → inBlock b (Stands s)
 in-place-of s (a-program {ts} e h r w) = tree-keeps (Stands s) r (words-stand s ts e)
