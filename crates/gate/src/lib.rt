@@ -110,19 +110,6 @@ pub fn place_of(answer: Answer) -> u64
     }
 }
 
-// The most bytes of a text, and the sizes of the tables that CHECK uses.
-const TEXT_BYTES: usize = 16384;
-
-const TREE_WORDS: usize = 4096;
-
-const WORD_ENTRIES: usize = 4096;
-
-const STACK_ENTRIES: usize = 4097;
-
-const SCOPE_ENTRIES: usize = 4096;
-
-const NOTE_ENTRIES: usize = 4096;
-
 // The fixed size of the table of values that wait for their call: 1,024 for each of 200 calls within each other, two words each.
 pub const WAITING_ENTRIES: usize = 409600;
 
@@ -282,11 +269,11 @@ fn tables_suffice(
     let from_cells = suffices(2 * most_cells, cells.len(), true);
     let from_bindings = suffices(2 * most_bindings, bindings.len(), from_cells);
     let from_waiting = suffices(WAITING_ENTRIES, waiting.len(), from_bindings);
-    let from_notes = suffices(NOTE_ENTRIES, notes.len(), from_waiting);
-    let from_scopes = suffices(SCOPE_ENTRIES, scopes.len(), from_notes);
-    let from_stack = suffices(STACK_ENTRIES, stack.len(), from_scopes);
-    let from_words = suffices(WORD_ENTRIES, words.len(), from_stack);
-    let from_tree = suffices(TREE_WORDS, tree.len(), from_words);
+    let from_notes = suffices(verdict::NOTE_ENTRIES, notes.len(), from_waiting);
+    let from_scopes = suffices(verdict::SCOPE_ENTRIES, scopes.len(), from_notes);
+    let from_stack = suffices(reading::STACK_ENTRIES, stack.len(), from_scopes);
+    let from_words = suffices(reading::WORD_ENTRIES, words.len(), from_stack);
+    let from_tree = suffices(reading::TREE_WORDS, tree.len(), from_words);
     suffices(most_numbers, output.len(), from_tree)
 }
 
@@ -316,7 +303,7 @@ fn run_tree(
         cells: most_cells,
         output: most_numbers,
     };
-    let end = TREE_WORDS;
+    let end = reading::TREE_WORDS;
     let evaluated = run_program(
         &tree[..end],
         text,
@@ -402,7 +389,7 @@ pub fn run(
         (left r (now (tree .exit)) (now (words .exit)) (now (stack .exit)) (now (scopes .exit)) (now (notes .exit)) (now (waiting .exit))
         (now (bindings .exit)) (now (cells .exit)) (now (output .exit))) ⌝ }
 {
-    if TEXT_BYTES < text.len() {
+    if reading::TEXT_BYTES < text.len() {
         return refused(Answer::Length);
     }
     let admission = make_limits(fuel, depth, most_bindings, most_cells, most_numbers);

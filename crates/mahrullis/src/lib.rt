@@ -5,6 +5,7 @@ use gate::answer_to;
 use gate::number_of;
 use gate::place_of;
 use gate::run;
+use limits::less_of;
 use verdict::check;
 use words::name_at;
 ghost use mathlib.Core.Path.{_≡_};
@@ -118,15 +119,6 @@ pub extern "C" fn mahrullis_run(
         output,
     );
     put_report(report, said)
-}
-
-fn less_of(a: usize, b: usize) -> usize
-    ensures { λ r. ⌜ r ≡ min a b ⌝ }
-{
-    if a <= b {
-        return a;
-    }
-    b
 }
 
 // NAME: offset and length of the name at a place; the length is 0 where no name starts, and the offset is never past the text's end.

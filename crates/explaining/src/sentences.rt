@@ -1,0 +1,303 @@
+// The answers' names, and a sentence for each that tells a tariff's author what to change.
+use crate::Limits;
+use gate::Answer;
+use words::Found;
+
+pub fn say_name(answer: Answer) {
+    match answer {
+        Answer::Done => lines::text(b"DONE"),
+        Answer::Length => lines::text(b"LENGTH"),
+        Answer::Limit => lines::text(b"LIMIT"),
+        Answer::Table => lines::text(b"TABLE"),
+        Answer::Byte(_) => lines::text(b"BYTE"),
+        Answer::Number(_) => lines::text(b"NUMBER"),
+        Answer::Tokens(_) => lines::text(b"TOKENS"),
+        Answer::Syntax(_) => lines::text(b"SYNTAX"),
+        Answer::Level(_) => lines::text(b"LEVEL"),
+        Answer::Type(_) => lines::text(b"TYPE"),
+        Answer::Fuel(_) => lines::text(b"FUEL"),
+        Answer::Depth(_) => lines::text(b"DEPTH"),
+        Answer::Cells(_) => lines::text(b"CELLS"),
+        Answer::Bindings(_) => lines::text(b"BINDINGS"),
+        Answer::Output(_) => lines::text(b"OUTPUT"),
+        Answer::Range(_) => lines::text(b"RANGE"),
+        Answer::Zero(_) => lines::text(b"ZERO"),
+        Answer::Unset(_) => lines::text(b"UNSET"),
+    }
+}
+
+fn say_length() {
+    lines::text(
+        b"the text is longer than 16,384 bytes, the most that a script may have: shorten it",
+    );
+}
+
+fn say_limit() {
+    lines::text(
+        b"a limit is beyond its greatest: fuel 1,000,000, depth 200, bindings, cells and output 4,096 each",
+    );
+}
+
+fn say_table() {
+    lines::text(b"a table that the gateway lends is too small: the script is not at fault");
+}
+
+fn say_byte() {
+    lines::text(
+        b"this byte is in no word: a script has names of letters and digits, numbers and the symbols [ ] ( ) ; : , * ->,\n",
+    );
+    lines::text(
+        b"with spaces, tabs and line ends between them; a - stands right before its digits, and there are no comments",
+    );
+}
+
+fn say_number() {
+    lines::text(b"this number is outside the range: write one from -2147483648 to 2147483647");
+}
+
+fn say_tokens() {
+    lines::text(
+        b"this is word 4,097, counting names, numbers, key words and symbols: a script has at most 4,096, so shorten it",
+    );
+}
+
+// At the text's end something is missing; anywhere else a word does not fit.
+fn say_syntax(text: &[u8], place: usize) {
+    if text.len() <= place {
+        lines::text(
+            b"the text ends before the program does: add what is missing, often a ] or a )",
+        );
+    } else {
+        lines::text(
+            b"no program goes on with this word: look before it for a ; or a bracket that is missing or too many;\n",
+        );
+        lines::text(
+            b"a block ends with ECHO, SET, IF, WHILE or CALL, not with a definition, and nothing follows the last ]",
+        );
+    }
+}
+
+fn say_level() {
+    lines::text(
+        b"this opens a 65th level: blocks, parentheses, abstractions and function types stand at most 64 deep;\n",
+    );
+    lines::text(b"take an inner part out and give it a name");
+}
+
+// The numbers of symbols and key words, as `words` has them.
+const OPENING: u8 = 3;
+
+const COLON: u8 = 6;
+
+const CONST: u8 = 10;
+
+const FUN: u8 = 11;
+
+const VAR: u8 = 13;
+
+const PROC: u8 = 14;
+
+const ECHO: u8 = 15;
+
+const SET: u8 = 16;
+
+const IF: u8 = 17;
+
+const WHILE: u8 = 18;
+
+const CALL: u8 = 19;
+
+const IF_INSIDE: u8 = 20;
+
+const AND: u8 = 21;
+
+const OR: u8 = 22;
+
+const ADR: u8 = 26;
+
+// The number of a symbol or a key word, 0 for any other word.
+fn mark_of(found: Found) -> u8 {
+    match found {
+        Found::Mark {
+            number,
+            start: _,
+            end: _,
+        } => number,
+        Found::Number {
+            value: _,
+            start: _,
+            end: _,
+        } => 0,
+        Found::Name { start: _, end: _ } => 0,
+        Found::End => 0,
+        Found::Refused {
+            number: _,
+            place: _,
+        } => 0,
+    }
+}
+
+// The place past a word, or `at` where there is none.
+fn past(found: Found, at: usize) -> usize {
+    match found {
+        Found::Mark {
+            number: _,
+            start: _,
+            end,
+        } => end,
+        Found::Number {
+            value: _,
+            start: _,
+            end,
+        } => end,
+        Found::Name { start: _, end } => end,
+        Found::End => at,
+        Found::Refused {
+            number: _,
+            place: _,
+        } => at,
+    }
+}
+
+fn say_nine() {
+    lines::text(b"the name may not be true, false, not, eq, lt, add, sub, mul or div");
+}
+
+// A name: a parameter's is the only one with a colon behind it.
+fn say_type_of_name(next: u8) {
+    if next == COLON {
+        lines::text(b"a var parameter must be a bool or an int;\n");
+        say_nine();
+    } else {
+        lines::text(b"this name has no value here: define it before it is used;\n");
+        lines::text(
+            b"a procedure stands only after CALL, and an operator such as add only first in its parentheses",
+        );
+    }
+}
+
+// What a parenthesis opens is told by the word behind it.
+fn say_type_inside(next: u8) {
+    match next {
+        IF_INSIDE => lines::text(b"(if a b c) needs a bool first, and then two values of one type"),
+        AND => lines::text(b"(and a b) needs two bools"),
+        OR => lines::text(b"(or a b) needs two bools"),
+        ADR => lines::text(b"(adr x) needs a name that is a VAR or a var parameter here"),
+        _ => {
+            lines::text(b"what stands first must be a function or an operator,\n");
+            lines::text(
+                b"with as many values behind it as it takes, each of the type that it takes there",
+            );
+        }
+    }
+}
+
+fn say_type_of_call() {
+    lines::text(
+        b"CALL needs a procedure that is defined before, and an argument of the right type for each of its parameters:\n",
+    );
+    lines::text(b"(adr x) for a var parameter, a value for any other");
+}
+
+// The first word of a node tells its rule.
+fn say_type(text: &[u8], place: usize) {
+    let found = words::read_at(text, place);
+    let next = mark_of(words::read_at(text, past(found, place)));
+    match mark_of(found) {
+        0 => say_type_of_name(next),
+        OPENING => say_type_inside(next),
+        CONST => {
+            lines::text(b"the value must be of the type that is written before it;\n");
+            say_nine();
+        }
+        FUN => {
+            lines::text(
+                b"the body must be of the type that is written behind the function's name;\n",
+            );
+            say_nine();
+        }
+        VAR => {
+            lines::text(b"a variable must be a bool or an int;\n");
+            say_nine();
+        }
+        PROC => say_nine(),
+        ECHO => lines::text(b"ECHO needs an int, and this is none"),
+        SET => lines::text(
+            b"SET needs a name that is a VAR or a var parameter here, and a value of its type",
+        ),
+        IF => lines::text(b"IF needs a bool before its two blocks"),
+        WHILE => lines::text(b"WHILE needs a bool before its block"),
+        CALL => say_type_of_call(),
+        _ => lines::text(b"the types do not fit here"),
+    }
+}
+
+fn say_fuel(fuel: u64) {
+    lines::text(b"no unit of fuel is left to enter this: the run was given ");
+    lines::count(fuel);
+    lines::text(b";\na loop or a recursion may have no end, or the script must do less");
+}
+
+fn say_depth(depth: u64) {
+    lines::text(
+        b"this stands too deep: as many others are entered and not ended as the run allows, ",
+    );
+    lines::count(depth);
+    lines::text(b";\nlet the recursion go less deep, or count in a WHILE");
+}
+
+fn say_cells(cells: u64) {
+    lines::text(b"no cell is left for this VAR: the run was given ");
+    lines::count(cells);
+    lines::text(b", and gives none back;\ndefine it outside the loop or the procedure, once");
+}
+
+fn say_bindings(bindings: u64) {
+    lines::text(b"too few bindings are left for the names made here: the run was given ");
+    lines::count(bindings);
+    lines::text(b", and gives none back;\ndefine outside the loop, or call less often");
+}
+
+fn say_output(output: u64) {
+    lines::text(b"no room is left for another number: the run was given room for ");
+    lines::count(output);
+    lines::text(b"; let it ECHO fewer");
+}
+
+fn say_range() {
+    lines::text(
+        b"the result is outside the range from -2147483648 to 2147483647: compute with smaller numbers",
+    );
+}
+
+fn say_zero() {
+    lines::text(b"this divides by 0: test the divisor first");
+}
+
+fn say_unset() {
+    lines::text(b"this variable has no value yet: SET it before it is read");
+}
+
+pub fn say_sentence(text: &[u8], limits: Limits, answer: Answer) {
+    let place = gate::place_of(answer) as usize;
+    match answer {
+        Answer::Done => lines::text(b"the run is done"),
+        Answer::Length => say_length(),
+        Answer::Limit => say_limit(),
+        Answer::Table => say_table(),
+        Answer::Byte(_) => say_byte(),
+        Answer::Number(_) => say_number(),
+        Answer::Tokens(_) => say_tokens(),
+        Answer::Syntax(_) => say_syntax(text, place),
+        Answer::Level(_) => say_level(),
+        Answer::Type(_) => say_type(text, place),
+        Answer::Fuel(_) => say_fuel(limits.fuel),
+        Answer::Depth(_) => say_depth(limits.depth),
+        Answer::Cells(_) => say_cells(limits.cells),
+        Answer::Bindings(_) => say_bindings(limits.bindings),
+        Answer::Output(_) => say_output(limits.output),
+        Answer::Range(_) => say_range(),
+        Answer::Zero(_) => say_zero(),
+        Answer::Unset(_) => say_unset(),
+    }
+}

@@ -1,0 +1,4 @@
+pub mod Lines
+pub mod Shown
+pub mod Written
+pub mod Claims

@@ -1,0 +1,251 @@
+/* Mahrullis: CHECK, RUN and NAME of APS scripts, over tables that the caller lends.
+ *
+ * Link target/staticlib/libmahrullis.a (`rt staticlib mahrullis`; x86-64 Linux). The archive's code is proved; this header and its inline functions are not.
+ * The least that works: a `static struct mahrullis_tables`, and mahrullis_run_text or mahrullis_check_text over it.
+ *
+ * What is believed of the caller, and all of it:
+ *   - each pointer is not null, is aligned for its type, and is valid for as many entries as the length after it says, also where that is 0;
+ *   - the text and the tables do not overlap, and nothing else reads or writes the tables, or writes the text, during the call;
+ *   - the thread has stack left: a run at depth 200 was seen to take up to 360 KB, one at a smaller depth limit as much less, CHECK 14 KB (measured, not proved).
+ * Lengths are counted in entries, not in bytes. Any length, any limit, any text and any contents of the tables are safe: what does not fit is an answer.
+ * Nothing is kept between calls, nothing is allocated and no system call is made, so calls over different tables may run at the same time. */
+#ifndef MAHRULLIS_H
+#define MAHRULLIS_H
+
+#include <stddef.h>
+#include <stdint.h>
+
+#ifdef __cplusplus
+extern "C" {
+#endif
+
+/* The archive is for 64-bit machines: this line fails to compile on others. */
+typedef char mahrullis_needs_64_bits[sizeof(size_t) == 8 ? 1 : -1];
+
+/* A longer text is answered LENGTH. */
+#define MAHRULLIS_TEXT_MOST 16384
+
+/* The greatest limits: one beyond is answered LIMIT. */
+#define MAHRULLIS_FUEL_MOST 1000000
+#define MAHRULLIS_DEPTH_MOST 200
+#define MAHRULLIS_BINDINGS_MOST 4096
+#define MAHRULLIS_CELLS_MOST 4096
+#define MAHRULLIS_OUTPUT_MOST 4096
+
+/* The entries that each table must have at least: a shorter one is answered TABLE. Entries past these are never touched. */
+#define MAHRULLIS_TREE_ENTRIES 4096
+#define MAHRULLIS_WORDS_ENTRIES 4096
+#define MAHRULLIS_STACK_ENTRIES 4097
+#define MAHRULLIS_SCOPES_ENTRIES 4096
+#define MAHRULLIS_NOTES_ENTRIES 4096
+#define MAHRULLIS_WAITING_ENTRIES 409600
+#define MAHRULLIS_REPORT_ENTRIES 6
+#define MAHRULLIS_PART_ENTRIES 2
+/* bindings, cells and output: so many entries for each one that the limit admits. */
+#define MAHRULLIS_ENTRIES_A_BINDING 2
+#define MAHRULLIS_ENTRIES_A_CELL 2
+#define MAHRULLIS_ENTRIES_A_NUMBER 1
+
+/* Every answer. CHECK gives 0, 1 and 3 to 9, RUN all of them, NAME 0 and 3. 1 to 9 are refusals; 20 to 27 stop a run, 20 to 24 at a limit. */
+enum mahrullis_answer {
+    MAHRULLIS_DONE = 0,      /* accepted, or run to its end; place 0 */
+    MAHRULLIS_LENGTH = 1,    /* the text is over 16,384 bytes; place 0 */
+    MAHRULLIS_LIMIT = 2,     /* a limit is over its greatest value; place 0 */
+    MAHRULLIS_TABLE = 3,     /* a table is too short; place 0 */
+    MAHRULLIS_BYTE = 4,      /* a byte that is in no word and separates none, at it */
+    MAHRULLIS_NUMBER = 5,    /* a number outside -2,147,483,648 to 2,147,483,647, at its start */
+    MAHRULLIS_TOKENS = 6,    /* over 4,096 words, at the 4,097th */
+    MAHRULLIS_SYNTAX = 7,    /* the words so far begin no program, at the first such word or at the text's end */
+    MAHRULLIS_LEVEL = 8,     /* a 65th level opens, at that word */
+    MAHRULLIS_TYPE = 9,      /* a rule of the types cannot be met, at the node */
+    MAHRULLIS_FUEL = 20,     /* no unit is left, at the node entered */
+    MAHRULLIS_DEPTH = 21,    /* too many are entered and unended, at the node entered */
+    MAHRULLIS_CELLS = 22,    /* no cell is left, at the VAR */
+    MAHRULLIS_BINDINGS = 23, /* fewer bindings are left than are made, at the definition, CALL or application */
+    MAHRULLIS_OUTPUT = 24,   /* as many numbers are out as may be, at the ECHO */
+    MAHRULLIS_RANGE = 25,    /* a result is outside the range of numbers, at the application */
+    MAHRULLIS_ZERO = 26,     /* div by 0, at the application */
+    MAHRULLIS_UNSET = 27     /* a cell is read before it is set, at the name */
+};
+
+/* The kinds of a tree's nodes. */
+enum mahrullis_kind {
+    MAHRULLIS_KIND_BLOCK = 1,
+    MAHRULLIS_KIND_CONST = 2,
+    MAHRULLIS_KIND_FUN = 3,
+    MAHRULLIS_KIND_FUN_REC = 4,
+    MAHRULLIS_KIND_VAR = 5,
+    MAHRULLIS_KIND_PROC = 6,
+    MAHRULLIS_KIND_PROC_REC = 7,
+    MAHRULLIS_KIND_ECHO = 8,
+    MAHRULLIS_KIND_SET = 9,
+    MAHRULLIS_KIND_IF_STATEMENT = 10, /* IF */
+    MAHRULLIS_KIND_WHILE = 11,
+    MAHRULLIS_KIND_CALL = 12,
+    MAHRULLIS_KIND_PARAMETER = 13,
+    MAHRULLIS_KIND_VAR_PARAMETER = 14,
+    MAHRULLIS_KIND_BOOL = 15,
+    MAHRULLIS_KIND_INT = 16,
+    MAHRULLIS_KIND_FUNCTION_TYPE = 17,
+    MAHRULLIS_KIND_NUMBER = 18,
+    MAHRULLIS_KIND_NAME = 19,
+    MAHRULLIS_KIND_IF_EXPRESSION = 20, /* if */
+    MAHRULLIS_KIND_AND = 21,
+    MAHRULLIS_KIND_OR = 22,
+    MAHRULLIS_KIND_APPLICATION = 23,
+    MAHRULLIS_KIND_ABSTRACTION = 24,
+    MAHRULLIS_KIND_ADR = 25
+};
+
+/* CHECK: is the text a program whose types hold? Answers an enum mahrullis_answer and writes report[0] to report[5]: the answer, its place, and four zeros.
+ * Left behind, entries past a table's size untouched and the text only read:
+ *   after 1 and 3   every table as it was, but for those six entries of the report
+ *   after 4 to 9    tree, words, stack, scopes and notes zero up to their sizes
+ *   accepted        the tree, then zeros up to word 4,096; words, stack, scopes and notes zero up to their sizes
+ * A report of under six entries is answered TABLE before anything else, and then it too is left as it was. */
+uint64_t mahrullis_check(const uint8_t *text, size_t text_length,
+    uint64_t *tree, size_t tree_length,
+    uint64_t *words, size_t words_length,
+    uint64_t *stack, size_t stack_length,
+    uint64_t *scopes, size_t scopes_length,
+    uint64_t *notes, size_t notes_length,
+    uint64_t *report, size_t report_length);
+
+/* RUN: checks the text and runs it within the limits. Answers an enum mahrullis_answer and writes report[0] to report[5]: the answer, its place, the units,
+ * bindings and cells taken, and how many numbers were put out; the last four are 0 after 1 to 9.
+ * Left behind, entries past a table's size untouched and the text only read:
+ *   after 1 to 3    every table as it was, but for those six entries of the report
+ *   after 4 to 9    tree, words, stack, scopes, notes and waiting zero up to their sizes; bindings, cells and output as they were
+ *   after a run     the tree, then zeros up to word 4,096; words, stack, scopes, notes and waiting zero up to their sizes; bindings and cells zero as far as
+ *                   their limits; the numbers put out, oldest first, and the rest of the output as it was
+ * A report of under six entries is answered TABLE before anything else, and then it too is left as it was. */
+uint64_t mahrullis_run(const uint8_t *text, size_t text_length,
+    uint64_t fuel, uint64_t depth, uint64_t most_bindings, uint64_t most_cells, uint64_t most_numbers,
+    uint64_t *tree, size_t tree_length,
+    uint64_t *words, size_t words_length,
+    uint64_t *stack, size_t stack_length,
+    uint64_t *scopes, size_t scopes_length,
+    uint64_t *notes, size_t notes_length,
+    uint64_t *waiting, size_t waiting_length,
+    uint64_t *bindings, size_t bindings_length,
+    uint64_t *cells, size_t cells_length,
+    int64_t *output, size_t output_length,
+    uint64_t *report, size_t report_length);
+
+/* NAME: where the name at a byte of the text lies. Writes its offset to part[0] and its length to part[1], and answers 0: the longest stretch of letters and
+ * digits from `at` if it starts with a letter, else, and past the end, an empty part. The offset is `at`, or the text's length where `at` is past it, so
+ * offset + length is never more than the text's length. Texts of any length; key words count as names. A part of under two entries is answered 3, unchanged. */
+uint64_t mahrullis_name(const uint8_t *text, size_t text_length, size_t at, uint64_t *part, size_t part_length);
+
+/* All tables at their greatest sizes, 3.6 MB: declare it static or allocate it, and do not put it on a stack. Any contents will do, so it needs no
+ * initialiser. One for each thread that calls at the same time. */
+struct mahrullis_tables {
+    uint64_t tree[MAHRULLIS_TREE_ENTRIES];
+    uint64_t words[MAHRULLIS_WORDS_ENTRIES];
+    uint64_t stack[MAHRULLIS_STACK_ENTRIES];
+    uint64_t scopes[MAHRULLIS_SCOPES_ENTRIES];
+    uint64_t notes[MAHRULLIS_NOTES_ENTRIES];
+    uint64_t waiting[MAHRULLIS_WAITING_ENTRIES];
+    uint64_t bindings[MAHRULLIS_ENTRIES_A_BINDING * MAHRULLIS_BINDINGS_MOST];
+    uint64_t cells[MAHRULLIS_ENTRIES_A_CELL * MAHRULLIS_CELLS_MOST];
+    int64_t output[MAHRULLIS_ENTRIES_A_NUMBER * MAHRULLIS_OUTPUT_MOST];
+};
+
+struct mahrullis_limits {
+    uint64_t fuel;     /* units: definitions, statements, expressions and adr that may be entered */
+    uint64_t depth;    /* of these, how many may be unended at a time */
+    uint64_t bindings; /* how many may be made */
+    uint64_t cells;    /* how many VAR may take */
+    uint64_t output;   /* how many numbers may be put out */
+};
+
+/* An initialiser: struct mahrullis_limits limits = MAHRULLIS_GREATEST_LIMITS; */
+#define MAHRULLIS_GREATEST_LIMITS \
+    { MAHRULLIS_FUEL_MOST, MAHRULLIS_DEPTH_MOST, MAHRULLIS_BINDINGS_MOST, MAHRULLIS_CELLS_MOST, MAHRULLIS_OUTPUT_MOST }
+
+/* A report's six entries, in their order. */
+struct mahrullis_report {
+    uint64_t code;     /* an enum mahrullis_answer */
+    uint64_t place;    /* a byte of the text, or its length; 0 where the answer has no place */
+    uint64_t units;    /* taken */
+    uint64_t bindings; /* made */
+    uint64_t cells;    /* taken */
+    uint64_t numbers;  /* put out: tables.output[0] to tables.output[numbers - 1] */
+};
+
+/* A part of a text: `length` bytes from `offset`, never past its end. */
+struct mahrullis_part {
+    size_t offset;
+    size_t length;
+};
+
+/* In the three functions below a text may be null where its length is 0. */
+static inline const uint8_t *mahrullis_bytes(const void *text) {
+    static const uint8_t none[1] = {0};
+    return text ? (const uint8_t *)text : none;
+}
+
+static inline struct mahrullis_report mahrullis_report_in(const uint64_t *table) {
+    struct mahrullis_report report;
+    report.code = table[0];
+    report.place = table[1];
+    report.units = table[2];
+    report.bindings = table[3];
+    report.cells = table[4];
+    report.numbers = table[5];
+    return report;
+}
+
+/* CHECK over such tables: never answers TABLE. Where the code is 0 the tree stands in tables->tree. */
+static inline struct mahrullis_report mahrullis_check_text(const void *text, size_t length, struct mahrullis_tables *tables) {
+    uint64_t report[MAHRULLIS_REPORT_ENTRIES];
+    mahrullis_check(mahrullis_bytes(text), length,
+        tables->tree, MAHRULLIS_TREE_ENTRIES,
+        tables->words, MAHRULLIS_WORDS_ENTRIES,
+        tables->stack, MAHRULLIS_STACK_ENTRIES,
+        tables->scopes, MAHRULLIS_SCOPES_ENTRIES,
+        tables->notes, MAHRULLIS_NOTES_ENTRIES,
+        report, MAHRULLIS_REPORT_ENTRIES);
+    return mahrullis_report_in(report);
+}
+
+/* RUN over such tables: never answers TABLE. After any code but 1 to 9 the tree stands in tables->tree and the numbers in tables->output. */
+static inline struct mahrullis_report mahrullis_run_text(const void *text, size_t length, struct mahrullis_limits limits, struct mahrullis_tables *tables) {
+    uint64_t report[MAHRULLIS_REPORT_ENTRIES];
+    mahrullis_run(mahrullis_bytes(text), length,
+        limits.fuel, limits.depth, limits.bindings, limits.cells, limits.output,
+        tables->tree, MAHRULLIS_TREE_ENTRIES,
+        tables->words, MAHRULLIS_WORDS_ENTRIES,
+        tables->stack, MAHRULLIS_STACK_ENTRIES,
+        tables->scopes, MAHRULLIS_SCOPES_ENTRIES,
+        tables->notes, MAHRULLIS_NOTES_ENTRIES,
+        tables->waiting, MAHRULLIS_WAITING_ENTRIES,
+        tables->bindings, MAHRULLIS_ENTRIES_A_BINDING * MAHRULLIS_BINDINGS_MOST,
+        tables->cells, MAHRULLIS_ENTRIES_A_CELL * MAHRULLIS_CELLS_MOST,
+        tables->output, MAHRULLIS_ENTRIES_A_NUMBER * MAHRULLIS_OUTPUT_MOST,
+        report, MAHRULLIS_REPORT_ENTRIES);
+    return mahrullis_report_in(report);
+}
+
+/* NAME: the part of the text that is the name at that byte. */
+static inline struct mahrullis_part mahrullis_name_at(const void *text, size_t length, size_t at) {
+    uint64_t entries[MAHRULLIS_PART_ENTRIES];
+    struct mahrullis_part part;
+    mahrullis_name(mahrullis_bytes(text), length, at, entries, MAHRULLIS_PART_ENTRIES);
+    part.offset = (size_t)entries[0];
+    part.length = (size_t)entries[1];
+    return part;
+}
+
+/* A node's four parts. Nodes are numbered in text order from the root, tables->tree[0]; 0 as child or sibling means none. The first word 0 ends the tree.
+ * The name that a node of kind NAME, PARAMETER or VAR_PARAMETER stands for is mahrullis_name_at its place. */
+static inline unsigned mahrullis_node_kind(uint64_t node) { return (unsigned)(node >> 48); }
+static inline size_t mahrullis_node_place(uint64_t node) { return (size_t)(node >> 32 & 0xffff); }
+static inline size_t mahrullis_node_child(uint64_t node) { return (size_t)(node >> 16 & 0xffff); }
+static inline size_t mahrullis_node_sibling(uint64_t node) { return (size_t)(node & 0xffff); }
+
+#ifdef __cplusplus
+}
+#endif
+
+#endif
