@@ -40,31 +40,7 @@ fn main() {
     // one byte more than a script may have, so that a longer one is refused
     let mut text = [0u8; 16385];
     let length = io::read_full(0, &mut text);
-    let mut tree = [0u64; 4096];
-    let mut words = [0u64; 4096];
-    let mut stack = [0u64; 4097];
-    let mut scopes = [0u64; 4096];
-    let mut notes = [0u64; 4096];
-    let mut waiting = [0u64; 409600];
-    let mut bindings = [0u64; 8192];
-    let mut cells = [0u64; 8192];
     let mut output = [0i64; 4096];
-    let report = gate::run(
-        &text[..length],
-        100_000,
-        200,
-        4_096,
-        4_096,
-        4_096,
-        &mut tree,
-        &mut words,
-        &mut stack,
-        &mut scopes,
-        &mut notes,
-        &mut waiting,
-        &mut bindings,
-        &mut cells,
-        &mut output,
-    );
+    let report = runner::run(&text[..length], runner::usual_limits(), &mut output);
     print(report, &output);
 }

@@ -6,6 +6,7 @@
 use amounts::Amount;
 use amounts::Read;
 use gate::Report;
+use runner::Limits;
 
 // How many cases were tried, and how many agree.
 pub struct Tally {
@@ -121,79 +122,32 @@ fn say(line: &[u8], named: bool, agrees: bool, report: Report) {
     }
 }
 
+fn limits_in(line: &[u8]) -> Limits {
+    Limits {
+        fuel: count_at(line, 16),
+        depth: count_at(line, 24),
+        bindings: count_at(line, 32),
+        cells: count_at(line, 40),
+        output: count_at(line, 48),
+    }
+}
+
 // Runs one case's script and compares.
-fn try_case(
-    line: &[u8],
-    named: bool,
-    text: &[u8],
-    length: usize,
-    tree: &mut [u64],
-    words: &mut [u64],
-    stack: &mut [u64],
-    scopes: &mut [u64],
-    notes: &mut [u64],
-    waiting: &mut [u64],
-    bindings: &mut [u64],
-    cells: &mut [u64],
-    output: &mut [i64],
-) -> bool {
+fn try_case(line: &[u8], named: bool, text: &[u8], length: usize) -> bool {
     if text.len() < length {
         return false;
     }
-    let report = gate::run(
-        &text[0..length],
-        count_at(line, 16),
-        count_at(line, 24),
-        count_at(line, 32),
-        count_at(line, 40),
-        count_at(line, 48),
-        tree,
-        words,
-        stack,
-        scopes,
-        notes,
-        waiting,
-        bindings,
-        cells,
-        output,
-    );
-    let numbers = numbers_agree(output, count_at(line, 96));
+    let mut output = [0i64; 4096];
+    let report = runner::run(&text[0..length], limits_in(line), &mut output);
+    let numbers = numbers_agree(&output, count_at(line, 96));
     let agrees = as_expected(line, report) && numbers;
     say(line, named, agrees, report);
     agrees
 }
 
-// The same over tables of the sizes that a run may ask for.
-fn try_in(
-    line: &[u8; 128],
-    named: bool,
-    text: &[u8; 32768],
-    length: usize,
-    tree: &mut [u64; 4096],
-    words: &mut [u64; 4096],
-    stack: &mut [u64; 4097],
-    scopes: &mut [u64; 4096],
-    notes: &mut [u64; 4096],
-    waiting: &mut [u64; 409600],
-    bindings: &mut [u64; 8192],
-    cells: &mut [u64; 8192],
-    output: &mut [i64; 4096],
-) -> bool {
-    try_case(
-        line,
-        named,
-        text,
-        length,
-        tree,
-        words,
-        stack,
-        scopes,
-        notes,
-        waiting,
-        bindings,
-        cells,
-        output,
-    )
+// The same over the reader's arrays.
+fn try_in(line: &[u8; 128], named: bool, text: &[u8; 32768], length: usize) -> bool {
+    try_case(line, named, text, length)
 }
 
 fn next_script(line: &[u8; 128], text: &mut [u8; 32768], last: usize) -> usize {
@@ -230,15 +184,6 @@ pub fn say_tally(tally: Tally) {
 pub fn try_all(named: bool) {
     let mut line = [0u8; 128];
     let mut text = [0u8; 32768];
-    let mut tree = [0u64; 4096];
-    let mut words = [0u64; 4096];
-    let mut stack = [0u64; 4097];
-    let mut scopes = [0u64; 4096];
-    let mut notes = [0u64; 4096];
-    let mut waiting = [0u64; 409600];
-    let mut bindings = [0u64; 8192];
-    let mut cells = [0u64; 8192];
-    let mut output = [0i64; 4096];
     let mut length: usize = 0;
     let mut tally = Tally { tried: 0, agree: 0 };
     let mut left: u64 = 1_000_000;
@@ -248,21 +193,7 @@ pub fn try_all(named: bool) {
             return;
         }
         length = next_script(&line, &mut text, length);
-        let agrees = try_in(
-            &line,
-            named,
-            &text,
-            length,
-            &mut tree,
-            &mut words,
-            &mut stack,
-            &mut scopes,
-            &mut notes,
-            &mut waiting,
-            &mut bindings,
-            &mut cells,
-            &mut output,
-        );
+        let agrees = try_in(&line, named, &text, length);
         tally = counted(tally, agrees);
         left -= 1;
     }

@@ -5,15 +5,7 @@ use crate::sentences::say_name;
 use crate::sentences::say_sentence;
 use gate::Answer;
 use gate::Report;
-
-// The limits of a run.
-pub struct Limits {
-    pub fuel: u64,
-    pub depth: u64,
-    pub bindings: u64,
-    pub cells: u64,
-    pub output: u64,
-}
+use runner::Limits;
 
 fn wide(n: usize) -> u64 {
     n as u64
@@ -105,31 +97,7 @@ fn say(text: &[u8], limits: Limits, report: Report, output: &[i64]) {
 
 // Runs a script within limits, and says what came of it.
 pub fn explain(text: &[u8], limits: Limits) {
-    let mut tree = [0u64; 4096];
-    let mut words = [0u64; 4096];
-    let mut stack = [0u64; 4097];
-    let mut scopes = [0u64; 4096];
-    let mut notes = [0u64; 4096];
-    let mut waiting = [0u64; 409600];
-    let mut bindings = [0u64; 8192];
-    let mut cells = [0u64; 8192];
     let mut output = [0i64; 4096];
-    let report = gate::run(
-        text,
-        limits.fuel,
-        limits.depth,
-        limits.bindings,
-        limits.cells,
-        limits.output,
-        &mut tree,
-        &mut words,
-        &mut stack,
-        &mut scopes,
-        &mut notes,
-        &mut waiting,
-        &mut bindings,
-        &mut cells,
-        &mut output,
-    );
+    let report = runner::run(text, limits, &mut output);
     say(text, limits, report, &output);
 }

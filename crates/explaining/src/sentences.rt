@@ -1,6 +1,6 @@
 // The answers' names, and a sentence for each that tells a tariff's author what to change.
-use crate::Limits;
 use gate::Answer;
+use runner::Limits;
 use words::Found;
 
 pub fn say_name(answer: Answer) {

@@ -4,10 +4,10 @@ use Rattle.cases.proofs.try_all.Statement.{statement}
 use Rattle.cases.proofs.try_all.Tie as tie
 
 abbrev Inv-loop : tie.InvT-loop
-Inv-loop _ _ _ _ _ _ _ _ _ _ _ _ _ _ _ _ _ _ _ _ _ _ _ _ _ _ _ _ left = Unit {0}
+Inv-loop _ _ _ _ _ _ _ _ _ _ left = Unit {0}
 
 abbrev μ-loop : tie.MeasureT-loop
-μ-loop _ _ _ _ _ _ _ _ _ _ _ _ _ _ _ _ _ _ _ _ _ _ _ _ _ _ _ _ left = left
+μ-loop _ _ _ _ _ _ _ _ _ _ left = left
 
 loop-holds : tie.Need-loop-holds Inv-loop μ-loop
 loop-holds c = search needs
