@@ -32,14 +32,14 @@ fn put_report(report: &mut [u64], said: Report) -> u64
     ensures { λ r. ⌜ Put (told-by said) (now (report .entry)) r (now (report .exit)) ⌝ }
 {
     let answer = said.answer;
-    let number = number_of(answer);
-    report[0] = number;
+    let code = number_of(answer);
+    report[0] = code;
     report[1] = place_of(answer);
     report[2] = said.units;
     report[3] = said.bindings;
     report[4] = said.cells;
     report[5] = said.numbers;
-    number
+    code
 }
 
 // CHECK. A report table under six entries is TABLE, and nothing is changed.
