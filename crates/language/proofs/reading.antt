@@ -17,4 +17,3 @@ pub mod TextOrder
 pub mod Kept
 pub mod Shown
 pub mod Examples
-pub mod Edges

@@ -3,4 +3,3 @@ pub mod Promised
 pub mod Tables
 pub mod Desk
 pub mod Worked
-pub mod Vectors

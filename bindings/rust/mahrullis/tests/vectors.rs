@@ -99,10 +99,8 @@ fn run_vectors() {
 }
 
 #[test]
-fn desk_edges_and_tariffs() {
+fn desk() {
     run_cases("desk");
-    run_cases("edges");
-    run_cases("tariffs");
 }
 
 /// A line of 16 hex digits.

@@ -1,8 +1,8 @@
 -- It ends: fewer tables are left at each turn.
 use Prim.Native.Nat.{_-_}
 use borrow.Author.Needs.{needs}
-use Rattle.edges.proofs.say_all_short.Statement.{statement}
-use Rattle.edges.proofs.say_all_short.Tie as tie
+use Rattle.desk.proofs.say_all_short.Statement.{statement}
+use Rattle.desk.proofs.say_all_short.Tie as tie
 
 abbrev Inv-loop : tie.InvT-loop
 Inv-loop table₀ table = Unit {0}
