@@ -201,8 +201,8 @@ fn say_type_of_call() {
 
 // The first word of a node tells its rule.
 fn say_type(text: &[u8], place: usize) {
-    let found = words::read_at(text, place);
-    let next = mark_of(words::read_at(text, past(found, place)));
+    let found = reader::read_at(text, place);
+    let next = mark_of(reader::read_at(text, past(found, place)));
     match mark_of(found) {
         0 => say_type_of_name(next),
         OPENING => say_type_inside(next),

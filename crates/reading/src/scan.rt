@@ -75,7 +75,7 @@ pub fn read_words(text: &[u8], table: &mut [u64]) -> Scan
     let mut n = 0;
     let mut over = 0;
     loop {
-        let next = entry_of(words::read_at(text, at));
+        let next = entry_of(reader::read_at(text, at));
         match next {
             Next::Word(entry, end) => {
                 over = first_over(n, table.len(), (entry % 65536) as usize, over);

@@ -6,4 +6,3 @@ pub mod Following
 pub mod Fronts
 pub mod Answers
 pub mod Examples
-pub mod Held

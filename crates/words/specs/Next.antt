@@ -44,14 +44,6 @@ told (stop r p) = Refused (refusal-number r) p
 abbrev pub foundFrom : (text : List ℕ) → (place : ℕ) → Found
 foundFrom text i = told (nextFrom text i)
 
--- the place past a word, and the place itself where there is none
-abbrev pub pastFound : Found → (place : ℕ) → ℕ
-pastFound (Mark k p e) i = e
-pastFound (Number z p e) i = e
-pastFound (Name p e) i = e
-pastFound End i = i
-pastFound (Refused n p) i = i
-
 -- the code's answer for an amount that is written from `start` to `end`
 abbrev pub amountFound : (start end : ℕ) → Amount → Found
 amountFound i e (Is z) = Number z i e

@@ -7,7 +7,7 @@ ghost use lib.ListN.{length, drop, getD};
 ghost use Rattle.language.specs.Words.{isSep, isLetter, isDigit, isPlain, stretch, nameAt, symbols, keyWords, mark-of};
 ghost use Rattle.words.specs.Sorts.{passes};
 ghost use Rattle.words.specs.Marks.{numbered, pack, cap, place-in, packed-keys};
-ghost use Rattle.words.specs.Next.{foundFrom, amountFound, readFound, pastFound};
+ghost use Rattle.words.specs.Next.{foundFrom, amountFound, readFound};
 use amounts::Amount;
 use amounts::Read;
 
@@ -304,7 +304,7 @@ fn front_at(text: &[u8], start: usize) -> Found
 }
 
 // The next word from a place on, past the separators there.
-fn word_at(text: &[u8], at: usize) -> Found
+pub fn word_at(text: &[u8], at: usize) -> Found
     ensures { λ r. ⌜ r ≡ foundFrom (now (text .entry)) at ⌝ }
 {
     let start = stretch_end(text, at, Sort::Separators);
@@ -312,106 +312,4 @@ fn word_at(text: &[u8], at: usize) -> Found
         return Found::End;
     }
     front_at(text, start)
-}
-
-// The bytes from a place on.
-fn rest_of(text: &[u8], at: usize) -> &[u8]
-    ensures { λ r. ⌜ now r ≡ drop at (now (text .entry)) ⌝ }
-{
-    if text.len() <= at {
-        return &text[text.len()..];
-    }
-    &text[at..]
-}
-
-// The place past a word, and the place itself where there is none.
-fn past(found: Found, at: usize) -> usize
-    ensures { λ r. ⌜ r ≡ pastFound found at ⌝ }
-{
-    match found {
-        Found::Mark {
-            number: _,
-            start: _,
-            end,
-        } => end,
-        Found::Number {
-            value: _,
-            start: _,
-            end,
-        } => end,
-        Found::Name { start: _, end } => end,
-        Found::End => at,
-        Found::Refused {
-            number: _,
-            place: _,
-        } => at,
-    }
-}
-
-// A reader holds the lent text and how far it has come.
-pub struct Reader<'a> {
-    pub text: &'a [u8],
-    pub at: usize,
-}
-
-// What was found, and the reader past it.
-pub struct Step<'a> {
-    pub found: Found,
-    pub reader: Reader<'a>,
-}
-
-impl<'a> Reader<'a> {
-    // A reader at the text's beginning.
-    pub fn new(text: &'a [u8]) -> Reader<'a>
-        ensures { λ r. ⌜ (r .text ≡ text .entry) × (r .at ≡ 0) ⌝ }
-    {
-        Reader { text, at: 0 }
-    }
-
-    // A reader at a place of the text.
-    pub fn open(text: &'a [u8], at: usize) -> Reader<'a>
-        ensures { λ r. ⌜ (r .text ≡ text .entry) × (r .at ≡ at) ⌝ }
-    {
-        Reader { text, at }
-    }
-
-    // The next word.
-    pub fn peek(self) -> Found
-        ensures { λ f. ⌜ f ≡ foundFrom (now (self .entry .text)) (self .entry .at) ⌝ }
-    {
-        word_at(self.text, self.at)
-    }
-
-    // The next word, with the reader past it.
-    pub fn next(self) -> Step<'a>
-        ensures { λ s.
-            ⌜ (s .found ≡ foundFrom (now (self .entry .text)) (self .entry .at))
-            × (s .reader .text ≡ self .entry .text)
-            × (s .reader .at ≡ pastFound (s .found) (self .entry .at)) ⌝ }
-    {
-        let at = self.at;
-        let found = word_at(self.text, at);
-        let end = past(found, at);
-        Step {
-            found,
-            reader: Reader {
-                text: self.text,
-                at: end,
-            },
-        }
-    }
-
-    // What is left of the text.
-    pub fn rest(self) -> &'a [u8]
-        ensures { λ r. ⌜ now r ≡ drop (self .entry .at) (now (self .entry .text)) ⌝ }
-    {
-        rest_of(self.text, self.at)
-    }
-}
-
-// The next word from a place on, read through a reader: for every caller that holds none.
-pub fn read_at(text: &[u8], at: usize) -> Found
-    ensures { λ f. ⌜ f ≡ foundFrom (now (text .entry)) at ⌝ }
-{
-    Reader::open(text, at).peek()
 }

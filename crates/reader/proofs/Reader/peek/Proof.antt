@@ -1,4 +1,4 @@
--- `words::Reader::peek` meets its contract: a walk of its MIR, by hand. The reader is taken apart, and `word_at` is called with its text and its place.
+-- `reader::Reader::peek` meets its contract: a walk of its MIR, by hand. The reader is taken apart, and `word_at` is called with its text and its place.
 -- Assumes nothing.
 use mathlib.Core.Path.{_≡_, refl}
 use mathlib.Core.List.{[], _∷_}
@@ -32,21 +32,21 @@ use denote.Triple.Table.{entered, cited}
 use denote.Triple.Walked.{says, Stays, stay-none, walkOf, goes-none, Walks, ends-at, walked, walk-meets}
 use denote.Exit.{yes}
 use denote.Triple.Clauses.{ensured, lasts}
 use Rattle.words.specs.Next.{foundFrom}
-use Rattle.words.specs.declared.Reader.{Reader}
+use Rattle.reader.specs.declared.Reader.{Reader}
 use Rattle.words.specs.declared.Found.{Found}
-use Rattle.words.proofs.Held.{B, mach, passed, D, L, fields, Own, to-callee, apart}
-use Rattle.words.proofs.Reader.Laws as T′
+use Rattle.reader.proofs.Held.{B, mach, passed, D, L, fields, Own, to-callee, apart}
+use Rattle.reader.proofs.Reader.Laws as T′
 use Rattle.words.proofs.Found as S
 use Rattle.words.proofs.Found.Laws as S′
 use Rattle.words.proofs.word_at as word
 use Rattle.words.proofs.word_at.Symbol as word-def
 use Rattle.words.proofs.word_at.Symbol.{name as #words·word-at}
 use Rattle.words.proofs.word_at.Met as word-thm
-use Rattle.words.proofs.Reader.peek.Key.{name as #words·peek}
-use Rattle.words.proofs.Reader.peek as peek
-use Rattle.words.proofs.Reader.peek.Statement as stated
-use Rattle.words.proofs.Reader.peek.Code as code
+use Rattle.reader.proofs.Reader.peek.Key.{name as #reader·peek}
+use Rattle.reader.proofs.Reader.peek as peek
+use Rattle.reader.proofs.Reader.peek.Statement as stated
+use Rattle.reader.proofs.Reader.peek.Code as code
 
 abbrev stayed : Stays (peek.ended .signature .params) (peek.ended .kept)
 stayed = (stay-none B yes, tt)
@@ -129,6 +129,6 @@ pub peek-spec : {M : Type 1} → stated.statement M
 unfolding code.routine tablesOf
 peek-spec 𝓤 H 𝓜 𝓖 𝓡 =
     entered 𝓤 H (tripleOf 𝓤 H (𝓖 .A) peek.signature (peek.spec 𝓤 H (𝓖 .A) (𝓜 .mem) (𝓡 .run)))
-    (tables 𝓤 H 𝓜 𝓡 code.env .C) (tables 𝓤 H 𝓜 𝓡 code.env .Λ) #words·peek code.function (code.unfolded 𝓤 H 𝓜 𝓡)
+    (tables 𝓤 H 𝓜 𝓡 code.env .C) (tables 𝓤 H 𝓜 𝓡 code.env .Λ) #reader·peek code.function (code.unfolded 𝓤 H 𝓜 𝓡)
     (meets 𝓤 H (𝓖 .A) (givenOf 𝓤 H 𝓜 𝓖) (𝓜 .mem) (𝓡 .run) (tablesOf 𝓤 H 𝓜 (tables 𝓤 H 𝓜 𝓡 code.env))
     (cited 𝓤 H (WordAt 𝓤 H (𝓖 .A) (𝓜 .mem) (𝓡 .run)) 𝓜 𝓡 code.env #words·word-at word-def.routine code.calls-words·word-at (word-thm.met 𝓤 H 𝓜 𝓖 𝓡)))

@@ -24,9 +24,9 @@ use denote.Struct.Declared.{Declared}
 use denote.Struct.Laws as LL
 use denote.Struct.Rest.{all-own, ownAt, rest, own-open, own-out}
 use denote.Struct.Values.{Values}
-use Rattle.words.specs.declared.Reader.{Reader}
-use Rattle.words.proofs.Reader as T
-use Rattle.words.proofs.Reader.Laws as T′
+use Rattle.reader.specs.declared.Reader.{Reader}
+use Rattle.reader.proofs.Reader as T
+use Rattle.reader.proofs.Reader.Laws as T′
 
 -- a reader's type, over the signature's lifetimes
 abbrev pub B : Lfts 1 → RattleType

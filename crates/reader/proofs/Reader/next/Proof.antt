@@ -1,4 +1,4 @@
--- `words::Reader::next` meets its contract: a walk of its MIR, by hand. `word_at` and `past` are called,
+-- `reader::Reader::next` meets its contract: a walk of its MIR, by hand. `word_at` and `past` are called,
 -- and a struct is made that holds what was found and the reader moved past it, a struct within a struct.
 -- Assumes nothing.
 use mathlib.Core.Path.{_≡_, refl, subst}
@@ -40,29 +40,30 @@ use denote.Triple.Table.{entered, cited}
 use denote.Triple.Walked.{says, Stays, stay-none, walkOf, goes-none, Walks, ends-at, walked, walk-meets}
 use denote.Exit.{yes}
 use denote.Triple.Clauses.{ensured, lasts}
-use Rattle.words.specs.Next.{foundFrom, pastFound}
-use Rattle.words.specs.declared.Reader.{Reader}
+use Rattle.words.specs.Next.{foundFrom}
+use Rattle.reader.specs.Past.{pastFound}
+use Rattle.reader.specs.declared.Reader.{Reader}
 use Rattle.words.specs.declared.Found.{Found}
-use Rattle.words.specs.declared.Step.{Step}
-use Rattle.words.proofs.Held.{B, mach, slice, passed, D, L, fields, Own, to-callee, apart}
-use Rattle.words.proofs.Reader as T
-use Rattle.words.proofs.Reader.Laws as T′
-use Rattle.words.proofs.Step as Q
-use Rattle.words.proofs.Step.Laws as Q′
+use Rattle.reader.specs.declared.Step.{Step}
+use Rattle.reader.proofs.Held.{B, mach, slice, passed, D, L, fields, Own, to-callee, apart}
+use Rattle.reader.proofs.Reader as T
+use Rattle.reader.proofs.Reader.Laws as T′
+use Rattle.reader.proofs.Step as Q
+use Rattle.reader.proofs.Step.Laws as Q′
 use Rattle.words.proofs.Found as S
 use Rattle.words.proofs.Found.Laws as S′
 use Rattle.words.proofs.word_at as word
 use Rattle.words.proofs.word_at.Symbol as word-def
 use Rattle.words.proofs.word_at.Symbol.{name as #words·word-at}
 use Rattle.words.proofs.word_at.Met as word-thm
-use Rattle.words.proofs.past as past
-use Rattle.words.proofs.past.Symbol as past-def
-use Rattle.words.proofs.past.Symbol.{name as #words·past}
-use Rattle.words.proofs.past.Met as past-thm
-use Rattle.words.proofs.Reader.next.Key.{name as #words·next}
-use Rattle.words.proofs.Reader.next as next
-use Rattle.words.proofs.Reader.next.Statement as stated
-use Rattle.words.proofs.Reader.next.Code as code
+use Rattle.reader.proofs.past as past
+use Rattle.reader.proofs.past.Symbol as past-def
+use Rattle.reader.proofs.past.Symbol.{name as #reader·past}
+use Rattle.reader.proofs.past.Met as past-thm
+use Rattle.reader.proofs.Reader.next.Key.{name as #reader·next}
+use Rattle.reader.proofs.Reader.next as next
+use Rattle.reader.proofs.Reader.next.Statement as stated
+use Rattle.reader.proofs.Reader.next.Code as code
 
 -- of two equal lists of one, the elements are equal, the other way round
 heads : {x y : Val} → x ∷ [] ≡ y ∷ [] → y ≡ x
@@ -177,7 +178,7 @@ module _
 
     module _
         (C : Calls 𝓤 H) (Λ : Loops 𝓤 H) (fm : FmC 𝓤 H (W .laws) C)
-        (known : Triple 𝓤 (C #words·word-at) (WordAt 𝓤 H A mem run)) (known-past : Triple 𝓤 (C #words·past) (Past 𝓤 H A mem run))
+        (known : Triple 𝓤 (C #words·word-at) (WordAt 𝓤 H A mem run)) (known-past : Triple 𝓤 (C #reader·past) (Past 𝓤 H A mem run))
       where
         walk : Holds (hasTy (T′.mir (named 0)) (mach d)) × WT (mach d) → ent 𝓤 Entry (WpFn 𝓤 H C Λ code.function (mach d ∷ []) Post)
         walk wt =
@@ -232,7 +233,7 @@ module _
 
 module _ {M : Type 1} (𝓤 : URA M) (H : Heap 𝓤) (A : Atoms 𝓤) (W : Given 𝓤 H A) (mem : Memory → SProp 𝓤) (run : Routine → Fun 𝓤) where
   walks : (C : Calls 𝓤 H) (Λ : Loops 𝓤 H) → FmC 𝓤 H (W .laws) C → Triple 𝓤 (C #words·word-at) (WordAt 𝓤 H A mem run)
-      → Triple 𝓤 (C #words·past) (Past 𝓤 H A mem run)
+      → Triple 𝓤 (C #reader·past) (Past 𝓤 H A mem run)
       → Walks 𝓤 H A next.ended stayed (WpFn 𝓤 H C Λ code.function) (next.clauses 𝓤 H A mem run)
   walks C Λ fm known known-past =
       walked 𝓤 H A next.ended stayed (next.clauses 𝓤 H A mem run) (WpFn 𝓤 H C Λ code.function)
@@ -240,7 +241,7 @@ module _ {M : Type 1} (𝓤 : URA M) (H : Heap 𝓤) (A : Atoms 𝓤) (W : Given
       (λ κs qs bounds a g are. via 𝓤 _ (fst∗ 𝓤 _ (emp 𝓤))
       (walk 𝓤 H A W mem run (κs .0) (qs .0) (a .0) C Λ fm known known-past (LL.lawful (D (κs .0)) (L (κs .0)) 𝓤 H A W .typed (a .0) _ (are .0) .0)))
 
-  meets : (𝓣 : Tables 𝓤 H) → Triple 𝓤 (𝓣 .C #words·word-at) (WordAt 𝓤 H A mem run) → Triple 𝓤 (𝓣 .C #words·past) (Past 𝓤 H A mem run)
+  meets : (𝓣 : Tables 𝓤 H) → Triple 𝓤 (𝓣 .C #words·word-at) (WordAt 𝓤 H A mem run) → Triple 𝓤 (𝓣 .C #reader·past) (Past 𝓤 H A mem run)
       → Meets 𝓤 H A next.signature (WpFn 𝓤 H (𝓣 .C) (𝓣 .Λ) code.function) (next.spec 𝓤 H A mem run)
   meets 𝓣 known known-past =
       walk-meets 𝓤 H A next.ended stayed W (goes-none 𝓤 H A W 1 B yes (λ κs x f. refl), tt) (next.clauses 𝓤 H A mem run)
@@ -250,7 +251,7 @@ pub next-spec : {M : Type 1} → stated.statement M
 unfolding code.routine tablesOf
 next-spec 𝓤 H 𝓜 𝓖 𝓡 =
     entered 𝓤 H (tripleOf 𝓤 H (𝓖 .A) next.signature (next.spec 𝓤 H (𝓖 .A) (𝓜 .mem) (𝓡 .run)))
-    (tables 𝓤 H 𝓜 𝓡 code.env .C) (tables 𝓤 H 𝓜 𝓡 code.env .Λ) #words·next code.function (code.unfolded 𝓤 H 𝓜 𝓡)
+    (tables 𝓤 H 𝓜 𝓡 code.env .C) (tables 𝓤 H 𝓜 𝓡 code.env .Λ) #reader·next code.function (code.unfolded 𝓤 H 𝓜 𝓡)
     (meets 𝓤 H (𝓖 .A) (givenOf 𝓤 H 𝓜 𝓖) (𝓜 .mem) (𝓡 .run) (tablesOf 𝓤 H 𝓜 (tables 𝓤 H 𝓜 𝓡 code.env))
     (cited 𝓤 H (WordAt 𝓤 H (𝓖 .A) (𝓜 .mem) (𝓡 .run)) 𝓜 𝓡 code.env #words·word-at word-def.routine code.calls-words·word-at (word-thm.met 𝓤 H 𝓜 𝓖 𝓡))
-    (cited 𝓤 H (Past 𝓤 H (𝓖 .A) (𝓜 .mem) (𝓡 .run)) 𝓜 𝓡 code.env #words·past past-def.routine code.calls-words·past (past-thm.met 𝓤 H 𝓜 𝓖 𝓡)))
+    (cited 𝓤 H (Past 𝓤 H (𝓖 .A) (𝓜 .mem) (𝓡 .run)) 𝓜 𝓡 code.env #reader·past past-def.routine code.calls-reader·past (past-thm.met 𝓤 H 𝓜 𝓖 𝓡)))

@@ -3,8 +3,8 @@ use native.Mathlib.Omega.{arith}
 use lib.ListN.{length, drop, length-drop, drop-of-length-le}
 use lib.Seq.{drop-length, take-nil, take-all}
 use borrow.Author.Needs.{needs}
-use Rattle.words.proofs.rest_of.Statement.{statement}
-use Rattle.words.proofs.rest_of.Tie as tie
+use Rattle.reader.proofs.rest_of.Statement.{statement}
+use Rattle.reader.proofs.rest_of.Tie as tie
 
 sub-result : tie.Need-sub-result
 sub-result c = search needs

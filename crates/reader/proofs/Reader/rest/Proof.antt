@@ -1,4 +1,4 @@
--- `words::Reader::rest` meets its contract: a walk of its MIR, by hand. The reader is taken apart, and `rest_of` is called with its text and its place;
+-- `reader::Reader::rest` meets its contract: a walk of its MIR, by hand. The reader is taken apart, and `rest_of` is called with its text and its place;
 -- its result, a part of the text, is handed on.
 -- Assumes nothing.
 use mathlib.Core.Path.{_≡_, refl}
@@ -37,17 +37,17 @@ use denote.Triple.Table.{entered, cited}
 use denote.Triple.Walked.{says, Stays, stay-none, walkOf, goes-none, Walks, ends-at, walked, walk-meets}
 use denote.Exit.{yes}
 use denote.Triple.Clauses.{ensured, lasts}
-use Rattle.words.specs.declared.Reader.{Reader}
-use Rattle.words.proofs.Held.{B, mach, passed, D, L, fields, Own, to-callee, apart}
-use Rattle.words.proofs.Reader.Laws as T′
-use Rattle.words.proofs.rest_of as part
-use Rattle.words.proofs.rest_of.Symbol as part-def
-use Rattle.words.proofs.rest_of.Symbol.{name as #words·rest-of}
-use Rattle.words.proofs.rest_of.Met as part-thm
-use Rattle.words.proofs.Reader.rest.Key.{name as #words·rest}
-use Rattle.words.proofs.Reader.rest as left
-use Rattle.words.proofs.Reader.rest.Statement as stated
-use Rattle.words.proofs.Reader.rest.Code as code
+use Rattle.reader.specs.declared.Reader.{Reader}
+use Rattle.reader.proofs.Held.{B, mach, passed, D, L, fields, Own, to-callee, apart}
+use Rattle.reader.proofs.Reader.Laws as T′
+use Rattle.reader.proofs.rest_of as part
+use Rattle.reader.proofs.rest_of.Symbol as part-def
+use Rattle.reader.proofs.rest_of.Symbol.{name as #reader·rest-of}
+use Rattle.reader.proofs.rest_of.Met as part-thm
+use Rattle.reader.proofs.Reader.rest.Key.{name as #reader·rest}
+use Rattle.reader.proofs.Reader.rest as left
+use Rattle.reader.proofs.Reader.rest.Statement as stated
+use Rattle.reader.proofs.Reader.rest.Code as code
 
 abbrev stayed : Stays (left.ended .signature .params) (left.ended .kept)
 stayed = (stay-none B yes, tt)
@@ -95,7 +95,7 @@ module _
         (ends-at 𝓤 H A left.ended stayed (left.clauses 𝓤 H A mem run) W (((κ, tt), (q, tt), tt, (d, tt), (mach d ∷ [], tt)), tt) u r (tt, tt) (tt, tt)) $
         says ! e $ move ! (1 ∷ []) $ frame ! $ nothing ! $ move ! (2 ∷ 0 ∷ []) $ fjoin ! $ frame ! $ done !
 
-    module _ (C : Calls 𝓤 H) (Λ : Loops 𝓤 H) (fm : FmC 𝓤 H (W .laws) C) (known : Triple 𝓤 (C #words·rest-of) (RestOf 𝓤 H A mem run)) where
+    module _ (C : Calls 𝓤 H) (Λ : Loops 𝓤 H) (fm : FmC 𝓤 H (W .laws) C) (known : Triple 𝓤 (C #reader·rest-of) (RestOf 𝓤 H A mem run)) where
       walk : Holds (hasTy (T′.mir (named 0)) (mach d)) × WT (mach d) → ent 𝓤 Entry (WpFn 𝓤 H C Λ code.function (mach d ∷ []) Post)
       walk wt =
           qed W (raw Entry ∷ []) ∵ enter ! C Λ code.function (mach d ∷ []) _ $
@@ -116,7 +116,7 @@ module _
           by ! (exits r u e)))))))))
 
 module _ {M : Type 1} (𝓤 : URA M) (H : Heap 𝓤) (A : Atoms 𝓤) (W : Given 𝓤 H A) (mem : Memory → SProp 𝓤) (run : Routine → Fun 𝓤) where
-  walks : (C : Calls 𝓤 H) (Λ : Loops 𝓤 H) → FmC 𝓤 H (W .laws) C → Triple 𝓤 (C #words·rest-of) (RestOf 𝓤 H A mem run)
+  walks : (C : Calls 𝓤 H) (Λ : Loops 𝓤 H) → FmC 𝓤 H (W .laws) C → Triple 𝓤 (C #reader·rest-of) (RestOf 𝓤 H A mem run)
       → Walks 𝓤 H A left.ended stayed (WpFn 𝓤 H C Λ code.function) (left.clauses 𝓤 H A mem run)
   walks C Λ fm known =
       walked 𝓤 H A left.ended stayed (left.clauses 𝓤 H A mem run) (WpFn 𝓤 H C Λ code.function)
@@ -124,7 +124,7 @@ module _ {M : Type 1} (𝓤 : URA M) (H : Heap 𝓤) (A : Atoms 𝓤) (W : Given
       (λ κs qs bounds a g are. via 𝓤 _ (fst∗ 𝓤 _ (emp 𝓤))
       (walk 𝓤 H A W mem run (κs .0) (qs .0) (a .0) C Λ fm known (LL.lawful (D (κs .0)) (L (κs .0)) 𝓤 H A W .typed (a .0) _ (are .0) .0)))
 
-  meets : (𝓣 : Tables 𝓤 H) → Triple 𝓤 (𝓣 .C #words·rest-of) (RestOf 𝓤 H A mem run)
+  meets : (𝓣 : Tables 𝓤 H) → Triple 𝓤 (𝓣 .C #reader·rest-of) (RestOf 𝓤 H A mem run)
       → Meets 𝓤 H A left.signature (WpFn 𝓤 H (𝓣 .C) (𝓣 .Λ) code.function) (left.spec 𝓤 H A mem run)
   meets 𝓣 known =
       walk-meets 𝓤 H A left.ended stayed W (goes-none 𝓤 H A W 1 B yes (λ κs x f. refl), tt) (left.clauses 𝓤 H A mem run)
@@ -134,6 +134,6 @@ pub rest-spec : {M : Type 1} → stated.statement M
 unfolding code.routine tablesOf
 rest-spec 𝓤 H 𝓜 𝓖 𝓡 =
     entered 𝓤 H (tripleOf 𝓤 H (𝓖 .A) left.signature (left.spec 𝓤 H (𝓖 .A) (𝓜 .mem) (𝓡 .run)))
-    (tables 𝓤 H 𝓜 𝓡 code.env .C) (tables 𝓤 H 𝓜 𝓡 code.env .Λ) #words·rest code.function (code.unfolded 𝓤 H 𝓜 𝓡)
+    (tables 𝓤 H 𝓜 𝓡 code.env .C) (tables 𝓤 H 𝓜 𝓡 code.env .Λ) #reader·rest code.function (code.unfolded 𝓤 H 𝓜 𝓡)
     (meets 𝓤 H (𝓖 .A) (givenOf 𝓤 H 𝓜 𝓖) (𝓜 .mem) (𝓡 .run) (tablesOf 𝓤 H 𝓜 (tables 𝓤 H 𝓜 𝓡 code.env))
-    (cited 𝓤 H (RestOf 𝓤 H (𝓖 .A) (𝓜 .mem) (𝓡 .run)) 𝓜 𝓡 code.env #words·rest-of part-def.routine code.calls-words·rest-of (part-thm.met 𝓤 H 𝓜 𝓖 𝓡)))
+    (cited 𝓤 H (RestOf 𝓤 H (𝓖 .A) (𝓜 .mem) (𝓡 .run)) 𝓜 𝓡 code.env #reader·rest-of part-def.routine code.calls-reader·rest-of (part-thm.met 𝓤 H 𝓜 𝓖 𝓡)))

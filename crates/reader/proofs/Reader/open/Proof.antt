@@ -1,4 +1,4 @@
--- `words::Reader::open` meets its contract: a walk of its MIR, by hand. A reader is made of the text and the place passed, in the result's local.
+-- `reader::Reader::open` meets its contract: a walk of its MIR, by hand. A reader is made of the text and the place passed, in the result's local.
 -- A `&[u8]` is Copy, so what it owns is had twice: once for the text at exit, and once inside the result, beside the facts of the place.
 -- Assumes nothing.
 use mathlib.Core.Path.{refl}
@@ -35,12 +35,12 @@ use denote.Triple.Spec.{Meets, tripleOf}
 use denote.Triple.Table.{entered}
 use denote.Triple.Walked.{says, Stays, stay-none, stay-none-slice, walkOf, goes-none, goes-none-slice, Walks, ends-at, walked, walk-meets}
 use denote.Exit.{yes}
-use Rattle.words.specs.declared.Reader.{Reader}
-use Rattle.words.proofs.Held.{mach, D, L}
-use Rattle.words.proofs.Reader.open.Key.{name as #words·open}
-use Rattle.words.proofs.Reader.open as opened
-use Rattle.words.proofs.Reader.open.Statement as stated
-use Rattle.words.proofs.Reader.open.Code as code
+use Rattle.reader.specs.declared.Reader.{Reader}
+use Rattle.reader.proofs.Held.{mach, D, L}
+use Rattle.reader.proofs.Reader.open.Key.{name as #reader·open}
+use Rattle.reader.proofs.Reader.open as opened
+use Rattle.reader.proofs.Reader.open.Statement as stated
+use Rattle.reader.proofs.Reader.open.Code as code
 
 abbrev stayed : Stays (opened.ended .signature .params) (opened.ended .kept)
 stayed = (stay-none-slice (0 ∷ []) tt (plain (λ _. u8)) yes, (stay-none (λ _. usize) yes, tt))
@@ -110,5 +110,5 @@ pub open-spec : {M : Type 1} → stated.statement M
 unfolding code.routine tablesOf
 open-spec 𝓤 H 𝓜 𝓖 𝓡 =
     entered 𝓤 H (tripleOf 𝓤 H (𝓖 .A) opened.signature (opened.spec 𝓤 H (𝓖 .A) (𝓜 .mem) (𝓡 .run)))
-    (tables 𝓤 H 𝓜 𝓡 code.env .C) (tables 𝓤 H 𝓜 𝓡 code.env .Λ) #words·open code.function (code.unfolded 𝓤 H 𝓜 𝓡)
+    (tables 𝓤 H 𝓜 𝓡 code.env .C) (tables 𝓤 H 𝓜 𝓡 code.env .Λ) #reader·open code.function (code.unfolded 𝓤 H 𝓜 𝓡)
     (meets 𝓤 H (𝓖 .A) (givenOf 𝓤 H 𝓜 𝓖) (𝓜 .mem) (𝓡 .run) (tablesOf 𝓤 H 𝓜 (tables 𝓤 H 𝓜 𝓡 code.env)))

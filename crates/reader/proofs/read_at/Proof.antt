@@ -1,4 +1,4 @@
--- `words::read_at` meets its contract: a walk of its MIR, by hand. The reader that `open` returns is held in a local and passed to `peek`.
+-- `reader::read_at` meets its contract: a walk of its MIR, by hand. The reader that `open` returns is held in a local and passed to `peek`.
 -- In a local of a body MIR erases the lifetime of the struct's type, so the value is shown to have the type at `erased`: what the struct owns
 -- does not say the lifetime's name.
 -- Assumes nothing.
@@ -38,26 +38,26 @@ use denote.Triple.Table.{entered, cited}
 use denote.Triple.Walked.{says, Stays, stay-none, stay-none-slice, walkOf, goes-none, goes-none-slice, Walks, ends-at, walked, walk-meets}
 use denote.Exit.{yes}
 use denote.Triple.Clauses.{ensured, lasts}
 use Rattle.words.specs.Next.{foundFrom}
-use Rattle.words.specs.declared.Reader.{Reader}
+use Rattle.reader.specs.declared.Reader.{Reader}
 use Rattle.words.specs.declared.Found.{Found}
-use Rattle.words.proofs.Held.{B}
-use Rattle.words.proofs.Reader as T
-use Rattle.words.proofs.Reader.Laws as T′
+use Rattle.reader.proofs.Held.{B}
+use Rattle.reader.proofs.Reader as T
+use Rattle.reader.proofs.Reader.Laws as T′
 use Rattle.words.proofs.Found as S
 use Rattle.words.proofs.Found.Laws as S′
-use Rattle.words.proofs.Reader.open as opened
-use Rattle.words.proofs.Reader.open.Symbol as open-def
-use Rattle.words.proofs.Reader.open.Symbol.{name as #words·open}
-use Rattle.words.proofs.Reader.open.Met as open-thm
-use Rattle.words.proofs.Reader.peek as peek
-use Rattle.words.proofs.Reader.peek.Symbol as peek-def
-use Rattle.words.proofs.Reader.peek.Symbol.{name as #words·peek}
-use Rattle.words.proofs.Reader.peek.Met as peek-thm
-use Rattle.words.proofs.read_at.Key.{name as #words·read-at}
-use Rattle.words.proofs.read_at as read
-use Rattle.words.proofs.read_at.Statement as stated
-use Rattle.words.proofs.read_at.Code as code
+use Rattle.reader.proofs.Reader.open as opened
+use Rattle.reader.proofs.Reader.open.Symbol as open-def
+use Rattle.reader.proofs.Reader.open.Symbol.{name as #reader·open}
+use Rattle.reader.proofs.Reader.open.Met as open-thm
+use Rattle.reader.proofs.Reader.peek as peek
+use Rattle.reader.proofs.Reader.peek.Symbol as peek-def
+use Rattle.reader.proofs.Reader.peek.Symbol.{name as #reader·peek}
+use Rattle.reader.proofs.Reader.peek.Met as peek-thm
+use Rattle.reader.proofs.read_at.Key.{name as #reader·read-at}
+use Rattle.reader.proofs.read_at as read
+use Rattle.reader.proofs.read_at.Statement as stated
+use Rattle.reader.proofs.read_at.Code as code
 
 abbrev stayed : Stays (read.ended .signature .params) (read.ended .kept)
 stayed = (stay-none-slice (0 ∷ []) tt (plain (λ _. u8)) yes, (stay-none (λ _. usize) yes, tt))
@@ -150,7 +150,7 @@ module _
 
     module _
         (C : Calls 𝓤 H) (Λ : Loops 𝓤 H) (fm : FmC 𝓤 H (W .laws) C)
-        (known-open : Triple 𝓤 (C #words·open) (Open 𝓤 H A mem run)) (known-peek : Triple 𝓤 (C #words·peek) (Peek 𝓤 H A mem run))
+        (known-open : Triple 𝓤 (C #reader·open) (Open 𝓤 H A mem run)) (known-peek : Triple 𝓤 (C #reader·peek) (Peek 𝓤 H A mem run))
       where
         walk : Is (ShrSlice (named 0) κ u8) s (v ∷ []) → ent 𝓤 Entry (WpFn 𝓤 H C Λ code.function (v ∷ vint w64 m ∷ []) Post)
         walk p =
@@ -180,8 +180,8 @@ module _
             by ! (exits t u′ (e′ ∙ (ap (λ (x : RefT (List ℕ)). foundFrom (now x) (r .at)) (e .0) ∙ ap (foundFrom (now s)) (e .1))))))))))))))))
 
 module _ {M : Type 1} (𝓤 : URA M) (H : Heap 𝓤) (A : Atoms 𝓤) (W : Given 𝓤 H A) (mem : Memory → SProp 𝓤) (run : Routine → Fun 𝓤) where
-  walks : (C : Calls 𝓤 H) (Λ : Loops 𝓤 H) → FmC 𝓤 H (W .laws) C → Triple 𝓤 (C #words·open) (Open 𝓤 H A mem run)
-      → Triple 𝓤 (C #words·peek) (Peek 𝓤 H A mem run)
+  walks : (C : Calls 𝓤 H) (Λ : Loops 𝓤 H) → FmC 𝓤 H (W .laws) C → Triple 𝓤 (C #reader·open) (Open 𝓤 H A mem run)
+      → Triple 𝓤 (C #reader·peek) (Peek 𝓤 H A mem run)
       → Walks 𝓤 H A read.ended stayed (WpFn 𝓤 H C Λ code.function) (read.clauses 𝓤 H A mem run)
   walks C Λ fm known-open known-peek =
       walked 𝓤 H A read.ended stayed (read.clauses 𝓤 H A mem run) (WpFn 𝓤 H C Λ code.function)
@@ -189,7 +189,7 @@ module _ {M : Type 1} (𝓤 : URA M) (H : Heap 𝓤) (A : Atoms 𝓤) (W : Given
       (λ κs qs bounds a g are. via 𝓤 _ (fst∗ 𝓤 _ (emp 𝓤))
       (walk 𝓤 H A W mem run (κs .0) (qs .0) (a .0) (a .1 .0) (are .1 .0 .1) C Λ fm known-open known-peek (are .0)))
 
-  meets : (𝓣 : Tables 𝓤 H) → Triple 𝓤 (𝓣 .C #words·open) (Open 𝓤 H A mem run) → Triple 𝓤 (𝓣 .C #words·peek) (Peek 𝓤 H A mem run)
+  meets : (𝓣 : Tables 𝓤 H) → Triple 𝓤 (𝓣 .C #reader·open) (Open 𝓤 H A mem run) → Triple 𝓤 (𝓣 .C #reader·peek) (Peek 𝓤 H A mem run)
       → Meets 𝓤 H A read.signature (WpFn 𝓤 H (𝓣 .C) (𝓣 .Λ) code.function) (read.spec 𝓤 H A mem run)
   meets 𝓣 known-open known-peek =
       walk-meets 𝓤 H A read.ended stayed W
@@ -201,7 +201,7 @@ pub read-at-spec : {M : Type 1} → stated.statement M
 unfolding code.routine tablesOf
 read-at-spec 𝓤 H 𝓜 𝓖 𝓡 =
     entered 𝓤 H (tripleOf 𝓤 H (𝓖 .A) read.signature (read.spec 𝓤 H (𝓖 .A) (𝓜 .mem) (𝓡 .run)))
-    (tables 𝓤 H 𝓜 𝓡 code.env .C) (tables 𝓤 H 𝓜 𝓡 code.env .Λ) #words·read-at code.function (code.unfolded 𝓤 H 𝓜 𝓡)
+    (tables 𝓤 H 𝓜 𝓡 code.env .C) (tables 𝓤 H 𝓜 𝓡 code.env .Λ) #reader·read-at code.function (code.unfolded 𝓤 H 𝓜 𝓡)
     (meets 𝓤 H (𝓖 .A) (givenOf 𝓤 H 𝓜 𝓖) (𝓜 .mem) (𝓡 .run) (tablesOf 𝓤 H 𝓜 (tables 𝓤 H 𝓜 𝓡 code.env))
-    (cited 𝓤 H (Open 𝓤 H (𝓖 .A) (𝓜 .mem) (𝓡 .run)) 𝓜 𝓡 code.env #words·open open-def.routine code.calls-words·Reader·open (open-thm.met 𝓤 H 𝓜 𝓖 𝓡))
-    (cited 𝓤 H (Peek 𝓤 H (𝓖 .A) (𝓜 .mem) (𝓡 .run)) 𝓜 𝓡 code.env #words·peek peek-def.routine code.calls-words·Reader·peek (peek-thm.met 𝓤 H 𝓜 𝓖 𝓡)))
+    (cited 𝓤 H (Open 𝓤 H (𝓖 .A) (𝓜 .mem) (𝓡 .run)) 𝓜 𝓡 code.env #reader·open open-def.routine code.calls-reader·Reader·open (open-thm.met 𝓤 H 𝓜 𝓖 𝓡))
+    (cited 𝓤 H (Peek 𝓤 H (𝓖 .A) (𝓜 .mem) (𝓡 .run)) 𝓜 𝓡 code.env #reader·peek peek-def.routine code.calls-reader·Reader·peek (peek-thm.met 𝓤 H 𝓜 𝓖 𝓡)))
