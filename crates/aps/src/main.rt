@@ -1,5 +1,5 @@
 // Runs a fare script from standard input and prints its numbers and its end.
-use gate::Report;
+use answers::Report;
 
 fn print_refusal(number: u64, place: u64) {
     lines::text(b"refused ");
@@ -26,8 +26,8 @@ fn print_end(number: u64, place: u64, report: Report) {
 // The refusals are 1 to 9.
 fn print(report: Report, output: &[i64]) {
     let answer = report.answer;
-    let number = gate::number_of(answer);
-    let place = gate::place_of(answer);
+    let number = answers::number_of(answer);
+    let place = answers::place_of(answer);
     if 1 <= number && number <= 9 {
         print_refusal(number, place);
     } else {

@@ -5,7 +5,7 @@
 // and cells taken, and how many numbers are put out. Then come the script with a line end, and a line of 12 bytes for each number.
 use amounts::Amount;
 use amounts::Read;
-use gate::Report;
+use answers::Report;
 use runner::Limits;
 
 // How many cases were tried, and how many agree.
@@ -51,8 +51,8 @@ fn script(line: &[u8], text: &mut [u8], last: usize) -> usize {
 
 fn as_expected(line: &[u8], report: Report) -> bool {
     let answer = report.answer;
-    gate::number_of(answer) == count_at(line, 56)
-        && gate::place_of(answer) == count_at(line, 64)
+    answers::number_of(answer) == count_at(line, 56)
+        && answers::place_of(answer) == count_at(line, 64)
         && report.units == count_at(line, 72)
         && report.bindings == count_at(line, 80)
         && report.cells == count_at(line, 88)
@@ -95,9 +95,9 @@ fn say_name(line: &[u8]) {
 fn say_report(report: Report) {
     let answer = report.answer;
     lines::text(b" answers ");
-    lines::count(gate::number_of(answer));
+    lines::count(answers::number_of(answer));
     lines::text(b" at ");
-    lines::count(gate::place_of(answer));
+    lines::count(answers::place_of(answer));
     lines::text(b" units ");
     lines::count(report.units);
     lines::text(b" bindings ");

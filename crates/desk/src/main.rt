@@ -1,6 +1,6 @@
 // RUN's cases, a line for each: those of document 01 that no theorem holds; the tariffs of examples/; its edges, with the greatest limits and one beyond each,
 // the deepest evaluations with the widest call, and each table one entry too small.
-use gate::Report;
+use answers::Report;
 ghost use Prim.Native.Nat.{_≤_};
 
 // n, or one less where the table is the one to be too small.
@@ -59,7 +59,7 @@ fn say_short(table: u64) {
     lines::text(b"table ");
     lines::count(table);
     lines::text(b" too small: ");
-    lines::count(gate::number_of(answer));
+    lines::count(answers::number_of(answer));
     lines::text(b"\n");
 }
 

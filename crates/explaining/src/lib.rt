@@ -3,8 +3,8 @@ mod sentences;
 
 use crate::sentences::say_name;
 use crate::sentences::say_sentence;
-use gate::Answer;
-use gate::Report;
+use answers::Answer;
+use answers::Report;
 use runner::Limits;
 
 fn wide(n: usize) -> u64 {
@@ -47,8 +47,8 @@ fn say_rows(text: &[u8], at: usize) {
 
 // LENGTH, LIMIT and TABLE, 1 to 3, have no line.
 fn say_why(text: &[u8], limits: Limits, answer: Answer) {
-    let number = gate::number_of(answer);
-    let at = index(gate::place_of(answer));
+    let number = answers::number_of(answer);
+    let at = index(answers::place_of(answer));
     say_name(answer);
     lines::text(b" (");
     lines::count(number);
@@ -78,7 +78,7 @@ fn say_taken(report: Report) {
 // The refusals are 1 to 9, and the stops are above them.
 fn say(text: &[u8], limits: Limits, report: Report, output: &[i64]) {
     let answer = report.answer;
-    let number = gate::number_of(answer);
+    let number = answers::number_of(answer);
     if 1 <= number && number <= 9 {
         lines::text(b"refused: ");
         say_why(text, limits, answer);

@@ -1,5 +1,5 @@
 // The answers' names, and a sentence for each that tells a tariff's author what to change.
-use gate::Answer;
+use answers::Answer;
 use runner::Limits;
 use words::Found;
 
@@ -279,7 +279,7 @@ fn say_unset() {
 }
 
 pub fn say_sentence(text: &[u8], limits: Limits, answer: Answer) {
-    let place = gate::place_of(answer) as usize;
+    let place = answers::place_of(answer) as usize;
     match answer {
         Answer::Done => lines::text(b"the run is done"),
         Answer::Length => say_length(),

@@ -8,8 +8,8 @@ use Rattle.limits.specs.Cleared.{zeroed}
 use Rattle.machine.specs.State.{Ret, ret}
 use Rattle.machine.specs.declared.Bounds.{Bounds}
 use Rattle.machine.specs.declared.Evaluated.{Evaluated}
-use Rattle.gate.specs.declared.Report.{Report}
-use Rattle.gate.specs.Ended.{reported}
+use Rattle.answers.specs.declared.Report.{Report}
+use Rattle.answers.specs.Ended.{reported}
 use Rattle.gate.specs.Steps.{Came, came, cleared-after}
 use Rattle.gate.specs.Lent.{limits-of}
 

@@ -1,6 +1,5 @@
 pub mod Admits
 pub mod Tables
-pub mod Ends
 pub mod Came
 pub mod Promised
 pub mod Ways

@@ -26,12 +26,12 @@ use Rattle.machine.specs.State.{Ret}
 use Rattle.machine.specs.Shown.{fresh, program}
 use Rattle.machine.proofs.Relation.{Kept}
 use Rattle.machine.proofs.Whole.{RunsAs, text-runs, ends-as, never-stuck}
-use Rattle.gate.specs.declared.Report.{Report}
-use Rattle.gate.specs.Answers.{meant, said}
-use Rattle.gate.specs.Ended.{ended, reported}
+use Rattle.answers.specs.declared.Report.{Report}
+use Rattle.answers.specs.Answers.{meant, said}
+use Rattle.answers.specs.Ended.{ended, reported}
+use Rattle.answers.proofs.Ends.{ended-meant}
 use Rattle.gate.specs.Steps.{Came, came, cleared-after}
 use Rattle.gate.proofs.Tables.{both, fits-in, front-large, rest-large, cleared-append, cleared-kept, cleared-lent, word-of-tree}
-use Rattle.gate.proofs.Ends.{ended-meant}
 
 -- ---- CHECK's promise, where neither the text nor a table is refused
 

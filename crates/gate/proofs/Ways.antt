@@ -16,10 +16,10 @@ use Rattle.machine.specs.Shown.{fresh, program}
 use Rattle.verdict.specs.declared.Verdict.{Verdict}
 use Rattle.verdict.specs.Answers.{lent, checked}
 use Rattle.verdict.specs.Answers as verdict
-use Rattle.gate.specs.declared.Answer.{Answer}
-use Rattle.gate.specs.declared.Answer.the-variants.{Length, Limit, Table}
-use Rattle.gate.specs.declared.Report.{Report}
-use Rattle.gate.specs.Answers.{meant, refusal}
+use Rattle.answers.specs.declared.Answer.{Answer}
+use Rattle.answers.specs.declared.Answer.the-variants.{Length, Limit, Table}
+use Rattle.answers.specs.declared.Report.{Report}
+use Rattle.answers.specs.Answers.{meant, refusal}
 use Rattle.gate.specs.Lent.{working, stores, left}
 use Rattle.gate.specs.declared.Within.{Within}
 use Rattle.gate.specs.declared.Admission.{Admission}

@@ -4,8 +4,8 @@ use mathlib.Core.List.{List, [], _∷_}
 use lib.IntN.{ℤ}
 use Rattle.language.specs.Limits.{Limits}
 use Rattle.language.specs.Promises.{Lent, Ran}
-use Rattle.gate.specs.declared.Report.{Report}
-use Rattle.gate.specs.Answers.{said}
+use Rattle.answers.specs.declared.Report.{Report}
+use Rattle.answers.specs.Answers.{said}
 
 abbrev pub limits-of : (fuel depth bindings cells output : ℕ) → Limits
 limits-of f d b c o = record { fuel = f; depth = d; bindings = b; cells = c; output = o }

@@ -1,4 +1,2 @@
-pub mod Answers
 pub mod Lent
-pub mod Ended
 pub mod Steps

@@ -6,11 +6,11 @@ use lib.IntN.{ℤ}
 use Rattle.language.specs.Limits.{Limits, Admitted}
 use Rattle.limits.specs.Cleared.{zeroed}
 use Rattle.machine.specs.State.{Ret}
-use Rattle.gate.specs.declared.Report.{Report}
+use Rattle.answers.specs.declared.Report.{Report}
+use Rattle.answers.specs.Ended.{reported}
 use Rattle.gate.specs.declared.Within.{Within}
 use Rattle.gate.specs.declared.Admission.{Admission}
 use Rattle.gate.specs.declared.Admission.the-variants.{Made, Beyond}
-use Rattle.gate.specs.Ended.{reported}
 
 -- the numbers of limits that were made
 abbrev pub numbers-of : Within → Limits

@@ -5,8 +5,8 @@ use Prim.Native.Nat.{ℕ, _≤_}
 use native.Mathlib.Omega.{arith}
 use lib.ListN.{length, set, drop, length-set}
 use Rattle.language.specs.Answers.{number-of, place-of}
-use Rattle.gate.specs.declared.Report.{Report}
-use Rattle.gate.specs.Answers.{said}
+use Rattle.answers.specs.declared.Report.{Report}
+use Rattle.answers.specs.Answers.{said}
 use Rattle.mahrullis.specs.Reports.{report-entries, reported}
 
 -- a table keeps its length, so there is room for each entry of a report behind those before it

@@ -12,9 +12,9 @@ use Rattle.language.specs.Words.{nameAt}
 use Rattle.verdict.specs.declared.Verdict.{Verdict}
 use Rattle.verdict.specs.Answers.{lent, checked}
 use Rattle.verdict.specs.Answers as verdict
-use Rattle.gate.specs.declared.Answer.{Answer}
-use Rattle.gate.specs.declared.Report.{Report}
-use Rattle.gate.specs.Answers.{meant, refusal, said}
+use Rattle.answers.specs.declared.Answer.{Answer}
+use Rattle.answers.specs.declared.Report.{Report}
+use Rattle.answers.specs.Answers.{meant, refusal, said}
 use Rattle.gate.specs.Lent.{working, stores, left}
 use Rattle.mahrullis.specs.Reports.{report-entries, part-entries, Put, CheckInto, RunInto, NameInto}
 use Rattle.mahrullis.proofs.Tables.{two}

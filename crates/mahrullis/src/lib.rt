@@ -1,9 +1,9 @@
 // The jobs as C functions. A slice is a pointer and a length for its caller; an answer comes back as document 01's number, and with it a report in a lent table.
 // `include/mahrullis.h` declares them.
-use gate::Report;
-use gate::answer_to;
-use gate::number_of;
-use gate::place_of;
+use answers::Report;
+use answers::answer_to;
+use answers::number_of;
+use answers::place_of;
 use gate::run;
 use limits::less_of;
 use verdict::check;
@@ -13,7 +13,7 @@ ghost use mathlib.Core.List.{[], _∷_, _++_};
 ghost use Prim.Native.Nat.{_≤_, min};
 ghost use lib.ListN.{length, drop};
 ghost use Rattle.verdict.specs.Answers.{lent};
-ghost use Rattle.gate.specs.Answers.{said as told-by};
+ghost use Rattle.answers.specs.Answers.{said as told-by};
 ghost use Rattle.gate.specs.Lent.{limits-of, working, stores};
 ghost use Rattle.mahrullis.specs.Reports.{report-entries, part-entries, Put, CheckInto, RunInto, NameInto};
 

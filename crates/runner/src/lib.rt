@@ -1,5 +1,5 @@
 // RUN for programs: with tables of its own, all but the output, which the caller reads afterwards.
-use gate::Report;
+use answers::Report;
 
 pub struct Limits {
     pub fuel: u64,

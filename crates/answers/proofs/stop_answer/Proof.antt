@@ -1,9 +1,9 @@
 use Rattle.machine.specs.Entries.{pick}
-use Rattle.gate.specs.Ended.{stopped-by}
-use Rattle.gate.proofs.Ends.{stopped-last}
+use Rattle.answers.specs.Ended.{stopped-by}
+use Rattle.answers.proofs.Ends.{stopped-last}
 use borrow.Author.Needs.{needs}
-use Rattle.gate.proofs.stop_answer.Statement.{statement}
-use Rattle.gate.proofs.stop_answer.Tie as tie
+use Rattle.answers.proofs.stop_answer.Statement.{statement}
+use Rattle.answers.proofs.stop_answer.Tie as tie
 
 returns : tie.Need-returns
 unfolding stopped-by pick

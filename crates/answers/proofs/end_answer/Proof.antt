@@ -1,6 +1,6 @@
 use borrow.Author.Needs.{needs}
-use Rattle.gate.proofs.end_answer.Statement.{statement}
-use Rattle.gate.proofs.end_answer.Tie as tie
+use Rattle.answers.proofs.end_answer.Statement.{statement}
+use Rattle.answers.proofs.end_answer.Tie as tie
 
 enum-told : tie.Need-enum-told
 enum-told c = search needs

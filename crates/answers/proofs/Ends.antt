@@ -12,11 +12,11 @@ use Rattle.machine.specs.declared.Counts.{Counts}
 use Rattle.machine.specs.declared.Ending.{Ending}
 use Rattle.machine.specs.declared.Ending.the-variants.{Value, NoRule}
 use Rattle.machine.specs.declared.Ending.the-variants as E
-use Rattle.gate.specs.declared.Answer.{Answer}
-use Rattle.gate.specs.declared.Answer.the-variants.{Fuel, Depth, Cells, Bindings, Output, Range, Zero, Unset}
-use Rattle.gate.specs.declared.Report.{Report}
-use Rattle.gate.specs.Answers.{meant}
-use Rattle.gate.specs.Ended.{stopped-by, ended, reported}
+use Rattle.answers.specs.declared.Answer.{Answer}
+use Rattle.answers.specs.declared.Answer.the-variants.{Fuel, Depth, Cells, Bindings, Output, Range, Zero, Unset}
+use Rattle.answers.specs.declared.Report.{Report}
+use Rattle.answers.specs.Answers.{meant}
+use Rattle.answers.specs.Ended.{stopped-by, ended, reported}
 
 -- one test more on a stop's number
 module _ (p : ℕ) where

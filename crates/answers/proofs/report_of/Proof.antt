@@ -1,7 +1,7 @@
-use Rattle.gate.proofs.Ends.{reported-as}
+use Rattle.answers.proofs.Ends.{reported-as}
 use borrow.Author.Needs.{needs}
-use Rattle.gate.proofs.report_of.Statement.{statement}
-use Rattle.gate.proofs.report_of.Tie as tie
+use Rattle.answers.proofs.report_of.Statement.{statement}
+use Rattle.answers.proofs.report_of.Tie as tie
 
 end-answer-requires : tie.Need-end-answer-requires
 end-answer-requires c κs = search needs

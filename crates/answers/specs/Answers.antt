@@ -3,9 +3,9 @@ use Prim.Native.Nat.{ℕ}
 use Rattle.language.specs.Answers.{LENGTH, LIMIT, TABLE, BYTE, NUMBER, TOKENS, SYNTAX, LEVEL, TYPE, FUEL, DEPTH, CELLS, BINDINGS, OUTPUT, RANGE, ZERO, UNSET, limit, error, done, refused, stopped}
 use Rattle.language.specs.Answers as language
 use Rattle.language.specs.Promises.{Told}
-use Rattle.gate.specs.declared.Answer.{Answer}
-use Rattle.gate.specs.declared.Answer.the-variants.{Done, Length, Limit, Table, Byte, Number, Tokens, Syntax, Level, «Type», Fuel, Depth, Cells, Bindings, Output, Range, Zero, Unset}
-use Rattle.gate.specs.declared.Report.{Report}
+use Rattle.answers.specs.declared.Answer.{Answer}
+use Rattle.answers.specs.declared.Answer.the-variants.{Done, Length, Limit, Table, Byte, Number, Tokens, Syntax, Level, «Type», Fuel, Depth, Cells, Bindings, Output, Range, Zero, Unset}
+use Rattle.answers.specs.declared.Report.{Report}
 
 abbrev pub meant : Answer → language.Answer
 meant Done = done

@@ -5,9 +5,9 @@ use Rattle.machine.specs.Entries.{pick}
 use Rattle.machine.specs.declared.Ending.{Ending}
 use Rattle.machine.specs.declared.Ending.the-variants.{Value, Stop, NoRule}
 use Rattle.machine.specs.declared.Counts.{Counts}
-use Rattle.gate.specs.declared.Answer.{Answer}
-use Rattle.gate.specs.declared.Answer.the-variants.{Done, Fuel, Depth, Cells, Bindings, Output, Range, Zero, Unset}
-use Rattle.gate.specs.declared.Report.{Report}
+use Rattle.answers.specs.declared.Answer.{Answer}
+use Rattle.answers.specs.declared.Answer.the-variants.{Done, Fuel, Depth, Cells, Bindings, Output, Range, Zero, Unset}
+use Rattle.answers.specs.declared.Report.{Report}
 
 -- a stop by its number
 unfoldable pub stopped-by : ℕ → ℕ → Answer
