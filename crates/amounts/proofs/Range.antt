@@ -14,7 +14,6 @@ use Rattle.language.specs.Answers.{RANGE}
 use Rattle.language.specs.Numbers.{least, greatest, in-range, amount, fails, ranged}
 use Rattle.amounts.specs.Amounts.{computed}
 use Rattle.amounts.specs.Signs.{signed}
-use Rattle.amounts.specs.Written.{written}
 use Rattle.amounts.specs.declared.Amount.{Amount}
 use Rattle.amounts.specs.declared.Amount.the-variants.{Is, Range, Zero}
 
@@ -56,25 +55,3 @@ pub far : (negative : Bool) (n : ℕ) → 2 ^ 63 < n → fails RANGE ≡ ranged 
 far false n h = far-pos n (omega arith)
 far true zero h = absurd (omega arith)
 far true (suc n) h = simp (lt-leb n (mag least) (omega arith))
-
--- ---- an amount is known by what it says
-pub computed-written : (z : ℤ) → computed (written z) ≡ ranged z
-computed-written z = by (in-range z)
-  where
-    by : (t : Bool) → computed (cond t (Is z) Range) ≡ cond t (amount z) (fails RANGE)
-    by true = refl
-    by false = refl
-
-pub computed-one : (a b : Amount) → computed a ≡ computed b → a ≡ b
-computed-one (Is x) (Is y) e = let q : x ≡ y = cc in ap Is q
-computed-one (Is x) Range e = cc
-computed-one (Is x) Zero e = cc
-computed-one Range (Is y) e = cc
-computed-one Range Range e = refl
-computed-one Range Zero e = cc
-computed-one Zero (Is y) e = cc
-computed-one Zero Range e = cc
-computed-one Zero Zero e = refl
-
-pub is-written : (a : Amount) (z : ℤ) → computed a ≡ ranged z → a ≡ written z
-is-written a z e = computed-one a (written z) (e ∙ sym (computed-written z))

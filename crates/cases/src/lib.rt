@@ -4,8 +4,8 @@
 // the script's length; the limits on fuel, depth, bindings, cells and output; then what is expected: the answer's number and place, the units, bindings
 // and cells taken, and how many numbers are put out. Then come the script with a line end, and a line of 12 bytes for each number.
 use amounts::Amount;
-use amounts::Read;
 use answers::Report;
+use numerals::Read;
 use runner::Limits;
 
 // How many cases were tried, and how many agree.
@@ -24,7 +24,7 @@ fn number_in(amount: Amount) -> i64 {
 
 // The number that a line writes at a column, 0 where there is none.
 pub fn number_at(line: &[u8], at: usize) -> i64 {
-    match amounts::number_at(line, at) {
+    match numerals::number_at(line, at) {
         Read::Number(_, amount) => number_in(amount),
         Read::Not => 0,
     }

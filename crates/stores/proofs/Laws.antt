@@ -32,11 +32,11 @@ use Rattle.nodes.specs.Names.{meaningNo}
 use Rattle.nodes.specs.Written.{numberFrom, numberAt}
 use Rattle.amounts.specs.Amounts.{computed}
 use Rattle.amounts.specs.Signs.{signed}
-use Rattle.amounts.specs.Written.{written, written-from, number-front, readNumber}
+use Rattle.numerals.specs.Written.{written, written-from, number-front, readNumber}
 use Rattle.amounts.specs.declared.Amount.{Amount}
-use Rattle.amounts.specs.declared.Read.{Read}
-use Rattle.amounts.specs.declared.Read.the-variants.{Number, Not}
-use Rattle.amounts.proofs.Range.{computed-written}
+use Rattle.numerals.specs.declared.Read.{Read}
+use Rattle.numerals.specs.declared.Read.the-variants.{Number, Not}
+use Rattle.numerals.proofs.Written.{computed-written}
 
 -- ---- names
 

@@ -1,7 +1,6 @@
 // What the evaluator keeps and reads without evaluating anything: rows and bindings of its tables, names along their chain, numbers and operators.
 // Every function is total: a read past a table's end finds zeros, and a store past it does nothing.
 use amounts::Amount;
-use amounts::Read;
 use machine::Binding;
 use machine::Bounds;
 use machine::Counts;
@@ -9,6 +8,7 @@ use machine::Ending;
 use machine::Evaluated;
 use machine::Row;
 use nodes::Node;
+use numerals::Read;
 ghost use mathlib.Core.Path.{_≡_};
 ghost use mathlib.Core.List.{List};
 ghost use Prim.Native.Nat.{ℕ, _≤_};
@@ -249,7 +249,7 @@ fn given_for(amount: Amount, p: u64) -> Ending
 pub fn numeral_at(text: &[u8], p: u64) -> Ending
     ensures { λ r. ⌜ r ≡ numeralAt (now (text .entry)) p ⌝ }
 {
-    let read = amounts::number_at(text, p as usize);
+    let read = numerals::number_at(text, p as usize);
     match read {
         Read::Number(_, amount) => given_for(amount, p),
         Read::Not => Ending::Value(NUMBER, 0),

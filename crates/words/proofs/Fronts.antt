@@ -19,10 +19,10 @@ use Rattle.language.specs.Words.{kIF, kWHILE, kCALL, kif, kand, kor, kbool, kin
 use Rattle.language.specs.Words.{mark, number, named, isSep, isLetter, isDigit, isPlain, stretch, symbols, keyWords, mark-of}
 use Rattle.language.specs.Words.{Front, gap, word, bad, spelled, decimal, numeral, minus, symbol, front, nameAt}
 use Rattle.language.proofs.reading.Machine.{code}
-use Rattle.amounts.specs.Written.{written, number-front, readNumber}
+use Rattle.numerals.specs.Written.{written, number-front, readNumber}
 use Rattle.amounts.specs.declared.Amount.the-variants.{Is, Range}
-use Rattle.amounts.specs.declared.Read.the-variants as Read
-use Rattle.amounts.proofs.Fronts.{at-front, digit-no-gap, digit-no-letter, number-digit, number-minus, minus-none}
+use Rattle.numerals.specs.declared.Read.the-variants as Read
+use Rattle.numerals.proofs.Fronts.{at-front, digit-no-gap, digit-no-letter, number-digit, number-minus, minus-none}
 use Rattle.words.specs.Marks.{numbered}
 use Rattle.words.specs.Next.{Next, begun, nextIn, nextFrom, told, foundFrom, amountFound, readFound}
 use Rattle.words.specs.declared.Found.the-variants as F

@@ -8,8 +8,8 @@ use Rattle.language.specs.Words.{Word, mark, number, named, Front, gap, word, b
 use Rattle.language.proofs.reading.Machine.{code}
 use Rattle.amounts.specs.declared.Amount.{Amount}
 use Rattle.amounts.specs.declared.Amount.the-variants.{Is, Range, Zero}
-use Rattle.amounts.specs.declared.Read.{Read}
-use Rattle.amounts.specs.declared.Read.the-variants as Read
+use Rattle.numerals.specs.declared.Read.{Read}
+use Rattle.numerals.specs.declared.Read.the-variants as Read
 use Rattle.words.specs.declared.Found.{Found}
 use Rattle.words.specs.declared.Found.the-variants.{End, Mark, Number, Name, Refused}
 

@@ -9,7 +9,7 @@ ghost use Rattle.words.specs.Sorts.{passes};
 ghost use Rattle.words.specs.Marks.{numbered, pack, cap, place-in, packed-keys};
 ghost use Rattle.words.specs.Next.{foundFrom, amountFound, readFound};
 use amounts::Amount;
-use amounts::Read;
+use numerals::Read;
 
 // The next word of a text. A mark is a symbol or a key word by its number, 1 to 26, and `end` is the place past the word.
 // A refusal is BYTE or NUMBER, by its number.
@@ -270,7 +270,7 @@ fn minus_at(text: &[u8], start: usize) -> Found
             end: start + 2,
         };
     }
-    number_found(start, amounts::number_at(text, start))
+    number_found(start, numerals::number_at(text, start))
 }
 
 // The word, or the refusal, at a place that has no separator.
@@ -284,7 +284,7 @@ fn front_at(text: &[u8], start: usize) -> Found
         return spelled_at(text, start);
     }
     if is_digit(b) {
-        return number_found(start, amounts::number_at(text, start));
+        return number_found(start, numerals::number_at(text, start));
     }
     if b == b'-' {
         return minus_at(text, start);

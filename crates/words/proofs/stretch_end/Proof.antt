@@ -6,7 +6,7 @@ use borrow.Author.Tests.{not-true, not-false}
 use lib.ListN.{length, drop}
 use Rattle.language.specs.Words.{stretch}
 use Rattle.words.specs.Sorts.{passes}
-use Rattle.amounts.proofs.Reading.{stretch-goes, stretch-stops, stretch-past}
+use Rattle.numerals.proofs.Reading.{stretch-goes, stretch-stops, stretch-past}
 use Rattle.words.proofs.stretch_end.Statement.{statement}
 use Rattle.words.proofs.stretch_end.Tie as tie
 

@@ -1,8 +1,8 @@
 use native.Mathlib.Omega.{arith}
-use Rattle.amounts.proofs.Reading.{digit-bounds}
+use Rattle.numerals.proofs.Reading.{digit-bounds}
 use borrow.Author.Needs.{needs}
-use Rattle.amounts.proofs.with_digit.Statement.{statement}
-use Rattle.amounts.proofs.with_digit.Tie as tie
+use Rattle.numerals.proofs.with_digit.Statement.{statement}
+use Rattle.numerals.proofs.with_digit.Tie as tie
 
 mul-result : tie.Need-mul-result
 mul-result c = search needs

@@ -1,8 +1,8 @@
 use lib.Dec.{leb}
 use borrow.Author.Tests.{le-leb, lt-leb}
-use Rattle.amounts.proofs.Reading.{and-first, and-second}
-use Rattle.amounts.proofs.is_digit.Statement.{statement}
-use Rattle.amounts.proofs.is_digit.Tie as tie
+use Rattle.numerals.proofs.Reading.{and-first, and-second}
+use Rattle.numerals.proofs.is_digit.Statement.{statement}
+use Rattle.numerals.proofs.is_digit.Tie as tie
 
 returns : tie.Need-returns
 returns c = let b = c .before .args .b in and-second (leb 48 b) (leb b 57) (le-leb 48 b (c .if1 .taken))

@@ -11,11 +11,11 @@ use borrow.Author.Tests.{ne-eqb, lt-leb}
 use Rattle.language.specs.Answers.{BYTE, NUMBER}
 use Rattle.language.specs.Numbers.{in-range}
 use Rattle.language.specs.Words.{number, isSep, isLetter, isDigit, stretch, decimal, Front, word, bad, numeral, minus, front}
-use Rattle.amounts.specs.Written.{written, number-front, readNumber}
+use Rattle.numerals.specs.Written.{written, number-front, readNumber}
 use Rattle.amounts.specs.declared.Amount.the-variants.{Is, Range, Zero}
-use Rattle.amounts.specs.declared.Read.{Read}
-use Rattle.amounts.specs.declared.Read.the-variants.{Number, Not}
-use Rattle.amounts.proofs.Reading.{digit-bounds}
+use Rattle.numerals.specs.declared.Read.{Read}
+use Rattle.numerals.specs.declared.Read.the-variants.{Number, Not}
+use Rattle.numerals.proofs.Reading.{digit-bounds}
 
 pub at-front : (text : List ℕ) (i : ℕ) {s : List ℕ} → drop i text ≡ s → readNumber text i ≡ number-front i s
 at-front text i e = ap (number-front i) e

@@ -1,9 +1,9 @@
 use lib.ListN.{drop}
 use Rattle.language.specs.Words.{isDigit, stretch}
-use Rattle.amounts.proofs.Reading.{written-none, written-some}
+use Rattle.numerals.proofs.Reading.{written-none, written-some}
 use borrow.Author.Needs.{needs}
-use Rattle.amounts.proofs.written_at.Statement.{statement}
-use Rattle.amounts.proofs.written_at.Tie as tie
+use Rattle.numerals.proofs.written_at.Statement.{statement}
+use Rattle.numerals.proofs.written_at.Tie as tie
 
 digits-at-requires : tie.Need-digits-at-requires
 digits-at-requires c κs = search needs

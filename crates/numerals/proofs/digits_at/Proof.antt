@@ -4,10 +4,10 @@ use native.Mathlib.Omega.{arith}
 use borrow.Author.Tests.{not-true, not-false}
 use lib.ListN.{length}
 use Rattle.language.specs.Words.{isDigit}
-use Rattle.amounts.proofs.Reading.{stretch-past, stretch-stops, Reading, first, more, done}
+use Rattle.numerals.proofs.Reading.{stretch-past, stretch-stops, Reading, first, more, done}
 use borrow.Author.Needs.{needs}
-use Rattle.amounts.proofs.digits_at.Statement.{statement}
-use Rattle.amounts.proofs.digits_at.Tie as tie
+use Rattle.numerals.proofs.digits_at.Statement.{statement}
+use Rattle.numerals.proofs.digits_at.Tie as tie
 
 abbrev Inv-loop : tie.InvT-loop
 Inv-loop text from i₀ value₀ i value = Reading text from i value

@@ -8,11 +8,11 @@ use lib.IntN.{ℤ}
 use lib.ListN.{length, drop}
 use Rattle.language.specs.Numbers.{in-range}
 use Rattle.language.specs.Words.{isDigit, stretch, decimal}
 use Rattle.amounts.specs.Signs.{signed}
 use Rattle.amounts.specs.declared.Amount.{Amount}
 use Rattle.amounts.specs.declared.Amount.the-variants.{Is, Range}
-use Rattle.amounts.specs.declared.Read.{Read}
-use Rattle.amounts.specs.declared.Read.the-variants.{Number, Not}
+use Rattle.numerals.specs.declared.Read.{Read}
+use Rattle.numerals.specs.declared.Read.the-variants.{Number, Not}
 
 -- a written number must be in the range
 abbrev pub written : ℤ → Amount

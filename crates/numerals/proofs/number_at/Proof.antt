@@ -1,9 +1,9 @@
 use mathlib.Core.Path.{_∙_}
 use native.Mathlib.Omega.{arith}
-use Rattle.amounts.proofs.Reading.{none-at, minus-at, plain-at}
+use Rattle.numerals.proofs.Reading.{none-at, minus-at, plain-at}
 use borrow.Author.Needs.{needs}
-use Rattle.amounts.proofs.number_at.Statement.{statement}
-use Rattle.amounts.proofs.number_at.Tie as tie
+use Rattle.numerals.proofs.number_at.Statement.{statement}
+use Rattle.numerals.proofs.number_at.Tie as tie
 
 returns : tie.Need-returns
 returns c = let a = c .before .before .args in none-at (a .text .now) (a .at) (c .if1 .taken)

@@ -11,12 +11,13 @@ use lib.Seq.{drop-cons}
 use borrow.Author.Tests.{leb-true, leb-false, eq-eqb, ne-eqb}
 use Rattle.language.specs.Numbers.{ranged}
 use Rattle.language.specs.Words.{isDigit, stretch, decimal}
 use Rattle.amounts.specs.Amounts.{computed}
 use Rattle.amounts.specs.Signs.{signed}
-use Rattle.amounts.specs.Written.{written, cap, DigitsEnd, written-from, readNumber}
+use Rattle.numerals.specs.Written.{written, cap, DigitsEnd, written-from, readNumber}
 use Rattle.amounts.specs.declared.Amount.{Amount}
-use Rattle.amounts.specs.declared.Read.the-variants.{Number, Not}
-use Rattle.amounts.proofs.Range.{far, is-written}
+use Rattle.numerals.specs.declared.Read.the-variants.{Number, Not}
+use Rattle.amounts.proofs.Range.{far}
+use Rattle.numerals.proofs.Written.{is-written}
 
 -- ---- a digit
 pub and-second : (a b : Bool) → a ≡ true → b ≡ (a && b)
