@@ -5,7 +5,8 @@ ghost use Rattle.language.specs.Bytes.{same-bytes};
 ghost use Rattle.language.specs.Words.{nameAt};
 ghost use Rattle.language.specs.Names.{meaning};
 ghost use Rattle.nodes.specs.Nodes.{nodeAt};
-ghost use Rattle.nodes.specs.Names.{meaningNo};
+ghost use Rattle.words.specs.Marks.{place-in};
+ghost use Rattle.nodes.specs.Names.{meaningNo, first-bytes};
 
 // A node's kind, its place in the text, and the numbers of its first child and next sibling (0: none).
 pub struct Node {
@@ -86,36 +87,40 @@ pub fn same_name(text: &[u8], p: u64, q: u64) -> bool
     )
 }
 
+// Which of the nine names begins with this byte: 1 to 9, and 0 for none. No two of them begin alike.
+fn begun(b: u8) -> usize
+    ensures { λ r. ⌜ r ≡ place-in 1 b first-bytes ⌝ }
+{
+    match b {
+        b't' => 1,
+        b'f' => 2,
+        b'n' => 3,
+        b'e' => 4,
+        b'l' => 5,
+        b'a' => 6,
+        b's' => 7,
+        b'm' => 8,
+        b'd' => 9,
+        _ => 0,
+    }
+}
+
+// The ends of the nine names where they are written one behind the other; before the first stands an empty one.
+const ENDS: [usize; 11] = [0, 0, 4, 9, 12, 14, 16, 19, 22, 25, 28];
+
 // Which of the nine names these bytes are: 1 to 9, and 0 for any other name.
 fn meaning_of(name: &[u8]) -> u64
     ensures { λ r. ⌜ r ≡ meaningNo (meaning (now (name .entry))) ⌝ }
 {
-    if same_bytes(b"true", name) {
-        return 1;
+    if name.len() == 0 {
+        return 0;
     }
-    if same_bytes(b"false", name) {
-        return 2;
-    }
-    if same_bytes(b"not", name) {
-        return 3;
-    }
-    if same_bytes(b"eq", name) {
-        return 4;
-    }
-    if same_bytes(b"lt", name) {
-        return 5;
-    }
-    if same_bytes(b"add", name) {
-        return 6;
-    }
-    if same_bytes(b"sub", name) {
-        return 7;
-    }
-    if same_bytes(b"mul", name) {
-        return 8;
-    }
-    if same_bytes(b"div", name) {
-        return 9;
+    let k = begun(name[0]);
+    let from = ENDS[k];
+    let to = ENDS[k + 1];
+    let names: &[u8] = b"truefalsenoteqltaddsubmuldiv";
+    if same_bytes(&names[from..to], name) {
+        return k as u64;
     }
     0
 }
