@@ -3,7 +3,6 @@
 // A case is some lines of 16 hex digits and a script: the number and the place that are expected, the script's length, how many words its tree has; then the
 // script with a line end; then the tree's words.
 use libc::STDOUT_FILENO;
-use verdict::Verdict;
 
 struct Line {
     whole: bool,
@@ -106,35 +105,6 @@ fn zero_from(table: &[u64], from: usize) -> bool {
     true
 }
 
-// An answer's number and place.
-struct Said {
-    number: u64,
-    place: u64,
-}
-
-fn told(answer: Verdict) -> Said {
-    match answer {
-        Verdict::Accepted => Said {
-            number: 0,
-            place: 0,
-        },
-        Verdict::Length => Said {
-            number: 1,
-            place: 0,
-        },
-        Verdict::Table => Said {
-            number: 3,
-            place: 0,
-        },
-        Verdict::Byte(place) => Said { number: 4, place },
-        Verdict::Number(place) => Said { number: 5, place },
-        Verdict::Tokens(place) => Said { number: 6, place },
-        Verdict::Syntax(place) => Said { number: 7, place },
-        Verdict::Level(place) => Said { number: 8, place },
-        Verdict::Type(place) => Said { number: 9, place },
-    }
-}
-
 // Where the tree ends: none is left after a refusal. LENGTH leaves the table as it was, so that all of it may be the last case's tree.
 fn tree_end(number: u64, words: u64, size: usize) -> usize {
     if number == 1 {
@@ -159,12 +129,20 @@ fn try_case(
     if text.len() < length {
         return false;
     }
-    let answer = told(verdict::check(&text[0..length], tree, words, stack, scopes, notes));
+    let answer = answers::answer_to(verdict::check(
+        &text[0..length],
+        tree,
+        words,
+        stack,
+        scopes,
+        notes,
+    ));
+    let number = answers::number_of(answer);
     let tree_agrees = words_agree(tree, case.words);
     tree_agrees
-        && answer.number == case.number
-        && answer.place == case.place
-        && zero_from(tree, tree_end(answer.number, case.words, tree.len()))
+        && number == case.number
+        && answers::place_of(answer) == case.place
+        && zero_from(tree, tree_end(number, case.words, tree.len()))
         && zero_from(words, 0)
         && zero_from(stack, 0)
         && zero_from(scopes, 0)

@@ -1,6 +1,6 @@
 // Prints the tree of the fare script on standard input, a word a line as 16 hex digits, or why it is refused.
+use answers::Answer;
 use libc::STDOUT_FILENO;
-use verdict::Verdict;
 
 fn print_word(word: u64) {
     io::print_hex(STDOUT_FILENO, word, 16);
@@ -27,17 +27,12 @@ fn print_refusal(number: u64, place: u64) {
     io::write_all(STDOUT_FILENO, b"\n");
 }
 
-fn print(answer: Verdict, tree: &[u64]) {
-    match answer {
-        Verdict::Accepted => print_tree(tree),
-        Verdict::Length => print_refusal(1, 0),
-        Verdict::Table => print_refusal(3, 0),
-        Verdict::Byte(place) => print_refusal(4, place),
-        Verdict::Number(place) => print_refusal(5, place),
-        Verdict::Tokens(place) => print_refusal(6, place),
-        Verdict::Syntax(place) => print_refusal(7, place),
-        Verdict::Level(place) => print_refusal(8, place),
-        Verdict::Type(place) => print_refusal(9, place),
+fn print(answer: Answer, tree: &[u64]) {
+    let number = answers::number_of(answer);
+    if number == 0 {
+        print_tree(tree);
+    } else {
+        print_refusal(number, answers::place_of(answer));
     }
 }
 
@@ -50,7 +45,7 @@ fn main() {
     let mut stack = [0u64; 4097];
     let mut scopes = [0u64; 4096];
     let mut notes = [0u64; 4096];
-    let answer = verdict::check(
+    let verdict = verdict::check(
         &text[..length],
         &mut tree,
         &mut words,
@@ -58,5 +53,5 @@ fn main() {
         &mut scopes,
         &mut notes,
     );
-    print(answer, &tree);
+    print(answers::answer_to(verdict), &tree);
 }

@@ -83,7 +83,7 @@ returns-3 c =
     let he : L .at < length (L .stack) = omega arith in
     L .inv .6
     ∙ too-deep (A .end) (A .words .now) (L .stack) (L .tree) (L .i) (L .at) (L .m) (c .before .before .before .before .before .before .before .loop-test .taken) he (R .result) (R .ensures)
-      (c .before .before .if2 .left) (O .result) (O .ensures) (c .if3 .taken)
+    (c .before .before .if2 .left) (O .result) (O .ensures) (c .if3 .taken)
 
 add-replace-top : tie.Need-add-replace-top Inv-loop μ-loop
 add-replace-top c = search needs
@@ -110,16 +110,16 @@ loop-again c =
     let he : L .at < length (L .stack) = omega arith in
     let test = c .before .before .before .before .before .before .before .before .before .before .before .before .before .before .before .loop-test .taken in
     let found = c .before .before .before .before .before .before .before .before .before .before .if2 .left in
-    let within = c .before .before .before .before .before .before .before .before .if3 .left in
-    ( search needs
-    , search needs
-    , search needs
-    , search needs
-    , search needs
-    , search needs
-    , rw (c .before .before .before .before .before .before .replace-top .ensures .0, W .0, W .1 .0)
-      (L .inv .6
-      ∙ turn (A .end) (A .words .now) (L .stack) (L .tree) (L .i) (L .at) (L .m) test he (R .result) (R .ensures) found (O .result) (O .ensures) within)
+    let within = c .before .before .before .before .before .before .before .before .if3 .left in (
+      search needs,
+      search needs,
+      search needs,
+      search needs,
+      search needs,
+      search needs,
+      rw (c .before .before .before .before .before .before .replace-top .ensures .0, W .0, W .1 .0)
+          (L .inv .6
+          ∙ turn (A .end) (A .words .now) (L .stack) (L .tree) (L .i) (L .at) (L .m) test he (R .result) (R .ensures) found (O .result) (O .ensures) within),
     )
 
 same-length-7 : tie.Need-same-length-7 Inv-loop μ-loop

@@ -50,11 +50,11 @@ slice-aggregate-read-within-3 c =
 
 read-within-requires : tie.Need-read-within-requires
 read-within-requires c κs =
-    let A = c .before .before .before .before .before .before .before .before .before .before .before .args in
-    ( c .before .before .before .before .before .before .if1 .left
-    , length-take-le 4096 (A .tree .now) (c .before .before .before .before .before .if2 .left)
-    , length-take-le 4096 (A .words .now) (c .before .before .before .before .if3 .left)
-    , length-take-le 4097 (A .stack .now) (c .before .before .before .if4 .left)
+    let A = c .before .before .before .before .before .before .before .before .before .before .before .args in (
+      c .before .before .before .before .before .before .if1 .left,
+      length-take-le 4096 (A .tree .now) (c .before .before .before .before .before .if2 .left),
+      length-take-le 4096 (A .words .now) (c .before .before .before .before .if3 .left),
+      length-take-le 4097 (A .stack .now) (c .before .before .before .if4 .left),
     )
 
 same-length : tie.Need-same-length

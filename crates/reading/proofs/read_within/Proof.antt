@@ -42,13 +42,15 @@ returns c =
     let T = A .text .now in
     let after = P .last .1 .0 in
     let clear = c .before .before .before .before .before .before .before .before .before .before .before .before .before .before .before .before .before .before .before .before .before .before .before .before .clear-words .ensures ∙ clears 4096 tree (H .1) in
-    let said : told (zeros tree) (read T) ≡ ending (P .result) after = ap (λ (l : List ℕ). told l (read T)) (sym clear) ∙ P .ensures in
-    ( outcome-is (zeros tree) (read T) (P .result) after said
-    , ( c .before .before .before .before .before .before .before .before .before .before .clear-refused .ensures ∙ tree-is tree (read T) (P .result) after (search needs) (H .1) said
-      , ( c .before .before .before .before .before .before .clear-words2 .ensures ∙ clears-lent 4096 (P .last .1 .1 .0) (A .words .now) (search needs) (H .2)
-        , c .before .before .clear-words3 .ensures ∙ clears-lent 4097 (P .last .1 .1 .1 .0) (A .stack .now) (search needs) (H .3)
-        )
-      )
+    let said : told (zeros tree) (read T) ≡ ending (P .result) after = ap (λ (l : List ℕ). told l (read T)) (sym clear) ∙ P .ensures in (
+      outcome-is (zeros tree) (read T) (P .result) after said,
+      (
+        c .before .before .before .before .before .before .before .before .before .before .clear-refused .ensures ∙ tree-is tree (read T) (P .result) after (search needs) (H .1) said,
+        (
+          c .before .before .before .before .before .before .clear-words2 .ensures ∙ clears-lent 4096 (P .last .1 .1 .0) (A .words .now) (search needs) (H .2),
+          c .before .before .clear-words3 .ensures ∙ clears-lent 4097 (P .last .1 .1 .1 .0) (A .stack .now) (search needs) (H .3),
+        ),
+      ),
     )
 
 pub read-within-spec : {M : Type 1} → statement M

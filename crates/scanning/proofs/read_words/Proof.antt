@@ -51,11 +51,11 @@ loop-again c =
     let A = c .before .before .before .before .before .before .before .before .before .before .before .before .before .args in
     let L = c .before .before .before .before .before .before .before .before .before .before .loop in
     let F = c .before .before .before .before .before .before .before .before .before .read-at in
-    let k = told-by (A .text .now) (L .at) (c .before .before .before .before .before .before .before .before .before .before .before .before .before .pre) (F .result) _ (F .ensures) (sym (c .before .before .before .before .before .before .before .before .entry-of .ensures) ∙ c .before .before .before .before .before .before .next .given .1) in
-    ( omega (arith, k .further)
-    , k .inside
-    , search needs
-    , rw (c .before .before .keep .ensures, c .before .before .before .before .first-over .ensures) (L .inv .3 ∙ k .turn (L .table) (L .n) (L .over))
+    let k = told-by (A .text .now) (L .at) (c .before .before .before .before .before .before .before .before .before .before .before .before .before .pre) (F .result) _ (F .ensures) (sym (c .before .before .before .before .before .before .before .before .entry-of .ensures) ∙ c .before .before .before .before .before .before .next .given .1) in (
+      omega (arith, k .further),
+      k .inside,
+      search needs,
+      rw (c .before .before .keep .ensures, c .before .before .before .before .first-over .ensures) (L .inv .3 ∙ k .turn (L .table) (L .n) (L .over)),
     )
 
 enum-told : tie.Need-enum-told Inv-loop μ-loop
