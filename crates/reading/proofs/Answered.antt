@@ -22,8 +22,9 @@ use Rattle.language.proofs.reading.Written.{written}
 use Rattle.language.proofs.reading.One.{built}
 use Rattle.language.proofs.reading.Payload.{All, words-stand}
 use Rattle.language.proofs.reading.Standing.{Stands}
-use Rattle.reading.specs.Codes.{word-entry, entry-word}
-use Rattle.reading.specs.Steps.{run, whole}
+use Rattle.scanning.specs.Scanning.{word-entry, whole}
+use Rattle.parsing.specs.Codes.{entry-word}
+use Rattle.parsing.specs.Steps.{run}
 use Rattle.reading.specs.Outcomes.{told}
 use Rattle.reading.proofs.Trees.{fit-none}
 use Rattle.reading.proofs.Simulated.{Placed, placed-none, placed-more, stacked-none, stacked-more, spoken, simulated}

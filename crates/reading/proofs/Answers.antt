@@ -11,8 +11,8 @@ use Rattle.language.specs.Table.{table}
 use Rattle.language.specs.Reading.{Reading}
 use Rattle.language.specs.Promises.{text-bytes, Lent, tree-table, large-enough, untouched, cleared, tree-after}
 use Rattle.language.proofs.reading.Answer as Answer
-use Rattle.reading.specs.declared.Outcome.{Outcome}
-use Rattle.reading.specs.declared.Outcome.the-variants.{Tree, Refused}
+use Rattle.parsing.specs.declared.Outcome.{Outcome}
+use Rattle.parsing.specs.declared.Outcome.the-variants.{Tree, Refused}
 use Rattle.reading.specs.Promise.{outcome-of, Left, read-refuses, Read, too-long, too-small, answered}
 
 not-both : {b : Bool} → b ≡ true → b ≡ false → ⊥

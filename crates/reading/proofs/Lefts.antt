@@ -16,17 +16,18 @@ use Rattle.language.proofs.reading.Machine.{start}
 use Rattle.language.proofs.reading.Reader.{read}
 use Rattle.language.proofs.reading.Answer.{answers}
 use Rattle.limits.specs.Cleared
-use Rattle.reading.specs.declared.Outcome.{Outcome}
-use Rattle.reading.specs.declared.Outcome.the-variants.{Tree, Refused}
-use Rattle.reading.specs.declared.scan.Scan.{Scan}
-use Rattle.reading.specs.declared.scan.Scan.the-variants as scan
-use Rattle.reading.specs.Codes.{entry-word}
-use Rattle.reading.specs.Steps.{run, Ended, whole, halted}
-use Rattle.reading.specs.Scanning.{scanned}
-use Rattle.reading.specs.Outcomes.{ending, scan-ending, told, zeros, filled, kept}
+use Rattle.parsing.specs.declared.Outcome.{Outcome}
+use Rattle.parsing.specs.declared.Outcome.the-variants.{Tree, Refused}
+use Rattle.scanning.specs.declared.Scan.{Scan}
+use Rattle.scanning.specs.declared.Scan.the-variants as scan
+use Rattle.parsing.specs.Codes.{entry-word}
+use Rattle.parsing.specs.Steps.{run}
+use Rattle.scanning.specs.Scanning.{Ended, whole, halted, scanned, scan-ending}
+use Rattle.parsing.specs.Outcomes.{ending}
+use Rattle.reading.specs.Outcomes.{told, zeros, filled, kept}
 use Rattle.reading.specs.Promise.{Read, too-long, too-small, word-entries, stack-entries, working, outcome-of, left}
 use Rattle.reading.specs.Promise as Promise
-use Rattle.reading.proofs.Stacks.{drop-set}
+use Rattle.parsing.proofs.Stacks.{drop-set}
 use Rattle.reading.proofs.Answered.{answered}
 use Rattle.reading.proofs.Scanned.{scan-whole, scan-refused}
 

@@ -1,11 +1,7 @@
-pub mod Stacks
-pub mod Loops
 pub mod Numbered
 pub mod Trees
 pub mod Simulated
 pub mod Answered
 pub mod Scanned
-pub mod Entries
 pub mod Lefts
 pub mod Answers
-pub mod Finding

@@ -16,9 +16,10 @@ use Rattle.language.proofs.reading.Machine.{sBlock, sBody, sTail, sSemi, sCN, s
 use Rattle.language.proofs.reading.Machine.{sProcH, sPN, sPL, sArgp1, sArgp0, sVarN, sSN, sIC, sIB, sWC, sKN, sK1, sK0, sParen, sParenP, sE3, sE2}
 use Rattle.language.proofs.reading.Machine.{sE1, sRP, sArgs1, sArgs0, sAN, sTs1, sTs0, sTR}
 use Rattle.language.proofs.reading.Machine
-use Rattle.reading.specs.Codes
-use Rattle.reading.specs.Codes.{word-entry, sym-code, rule-word, packed-rule, rule-list, rule-starts, entry-word}
-use Rattle.reading.specs.Steps.{sym-in, level-in, link-in, call-in, how-in, act-in, kind-in, found, rules-at, rule-for, level-opened, above, beside}
+use Rattle.scanning.specs.Scanning.{word-entry}
+use Rattle.parsing.specs.Codes
+use Rattle.parsing.specs.Codes.{sym-code, rule-word, packed-rule, rule-list, rule-starts, entry-word}
+use Rattle.parsing.specs.Steps.{sym-in, level-in, link-in, call-in, how-in, act-in, kind-in, found, rules-at, rule-for, level-opened, above, beside}
 
 -- the kind of node that a rule writes
 abbrev pub act-kind : Act → ℕ

@@ -14,9 +14,7 @@ use Rattle.language.specs.Answers.{TOKENS, Result, fine, refuse, refusal-number
 use Rattle.language.specs.Words.{Word, place-word, wordsOf, most}
 use Rattle.language.proofs.reading.Reader
 use Rattle.language.proofs.reading.Reader.{past, read}
-use Rattle.reading.specs.Codes.{word-entry}
-use Rattle.reading.specs.Steps.{Ended, whole, halted}
-use Rattle.reading.specs.Scanning.{stored, scanned}
+use Rattle.scanning.specs.Scanning.{word-entry, Ended, whole, halted, stored, scanned}
 use Rattle.reading.specs.Outcomes.{told}
 
 -- as many words as there is room for stand in the table, behind those that stand there already

@@ -17,8 +17,9 @@ use Rattle.language.specs.Reading.{placeIn}
 use Rattle.language.proofs.reading.Machine.{tag, cal, lev, ctx, Ctx, Sym, Push, kid, deep, same, body, back, call, Rule, rule, rules, pick, Entry}
 use Rattle.language.proofs.reading.Machine.{ent, act, opened, places, follow}
 use Rattle.language.proofs.reading.Bounds.{End, finished, wrong, too-deep, fireB, bounded}
-use Rattle.reading.specs.Codes.{word-entry, rule-word, entry-word}
-use Rattle.reading.specs.Steps.{rule-for, run, Ended, whole, halted}
+use Rattle.scanning.specs.Scanning.{word-entry, Ended, whole, halted}
+use Rattle.parsing.specs.Codes.{rule-word, entry-word}
+use Rattle.parsing.specs.Steps.{rule-for, run}
 use Rattle.reading.proofs.Numbered.{act-kind, no-zero, act-of, kind-of, link-of, rule-found, opened-found, pushed, kind-fits}
 use Rattle.reading.proofs.Trees.{AllFit, wrote-words, counted-words, one-node, fit-act}
 

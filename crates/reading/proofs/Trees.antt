@@ -12,7 +12,7 @@ use borrow.Author.Tests.{ne-eqb, leb-true, leb-false}
 use Rattle.language.specs.Table.{Node, node, wordOf}
 use Rattle.language.proofs.reading.Machine.{sib, set-sib, link, add-leaf, add-fork, rekind, retype, Act, skip, leaf, fork, turn, act}
 use Rattle.language.proofs.reading.Written.{length-link}
-use Rattle.reading.specs.Steps.{act-in, kind-in, link-in, linked, retyped, wrote, count}
+use Rattle.parsing.specs.Steps.{act-in, kind-in, link-in, linked, retyped, wrote, count}
 use Rattle.reading.proofs.Numbered.{act-kind, act-number}
 
 -- a node whose parts but its kind have 16 bits

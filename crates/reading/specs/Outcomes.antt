@@ -6,21 +6,9 @@ use Rattle.language.specs.Syntax.{Block}
 use Rattle.language.specs.Answers.{Result, fine, refuse, refusal-number}
 use Rattle.language.specs.Table.{table}
 use Rattle.limits.specs.Cleared.{zeroed}
-use Rattle.reading.specs.declared.Outcome.{Outcome}
-use Rattle.reading.specs.declared.Outcome.the-variants.{Tree, Refused}
-use Rattle.reading.specs.declared.scan.Scan.{Scan}
-use Rattle.reading.specs.declared.scan.Scan.the-variants as scan
-use Rattle.reading.specs.Steps.{Ended, whole, halted}
-
--- the grammar's loop: the tree, or a refusal, after which the table says nothing
-abbrev pub ending : Outcome → List ℕ → Ended
-ending (Tree n) tree = whole tree n
-ending (Refused number place) tree = halted number place
-
--- the loop over the words
-abbrev pub scan-ending : Scan → List ℕ → Ended
-scan-ending (scan.Words n) table = whole table n
-scan-ending (scan.Refused number place) table = halted number place
+use Rattle.parsing.specs.declared.Outcome.{Outcome}
+use Rattle.parsing.specs.declared.Outcome.the-variants.{Tree, Refused}
+use Rattle.scanning.specs.Scanning.{Ended, whole, halted}
 
 -- the answer to a text, with the tree in the table l
 abbrev pub told : List ℕ → Result Block → Ended

@@ -9,8 +9,8 @@ use Rattle.language.specs.Answers.{Refusal, LENGTH, TABLE, Result, fine, refuse
 use Rattle.language.specs.Table.{table}
 use Rattle.language.specs.Reading.{Reading}
 use Rattle.language.specs.Promises.{text-bytes, Lent, tree-table, large-enough, untouched, cleared, tree-after}
-use Rattle.reading.specs.declared.Outcome.{Outcome}
-use Rattle.reading.specs.declared.Outcome.the-variants.{Tree, Refused}
+use Rattle.parsing.specs.declared.Outcome.{Outcome}
+use Rattle.parsing.specs.declared.Outcome.the-variants.{Tree, Refused}
 
 -- the working tables' fixed sizes: an entry for each word, and one more on the stack
 abbrev pub word-entries : ℕ

@@ -16,8 +16,8 @@ use Rattle.limits.specs.Cleared as limits
 use Rattle.limits.proofs.Cleared.{zeroed-is}
 use Rattle.nodes.specs.Trees.{ReadAs}
 use Rattle.nodes.proofs.Program.{nodes-of, table-length}
-use Rattle.reading.specs.declared.Outcome.{Outcome}
-use Rattle.reading.specs.declared.Outcome.the-variants.{Tree, Refused}
+use Rattle.parsing.specs.declared.Outcome.{Outcome}
+use Rattle.parsing.specs.declared.Outcome.the-variants.{Tree, Refused}
 use Rattle.reading.specs.Promise.{working, Left, left, Read, too-long, too-small, answered}
 use Rattle.judge.specs.Scopes.{pick, placeAt}
 use Rattle.judge.proofs.Right.{resultOf, zeros-verdict}

@@ -1,5 +1,5 @@
 use mathlib.Core.Path.{_∙_, ap, sym}
-use Rattle.reading.specs.declared.Outcome.{Outcome}
+use Rattle.parsing.specs.declared.Outcome.{Outcome}
 use Rattle.reading.specs.Outcomes.{kept}
 use borrow.Author.Needs.{needs}
 use Rattle.reading.proofs.clear_refused.Statement.{statement}

@@ -2,7 +2,8 @@ use mathlib.Core.Path.{_≡_, _∙_, ap, sym}
 use mathlib.Core.List.{List}
 use Prim.Native.Nat.{ℕ}
 use Rattle.language.proofs.reading.Reader.{read}
-use Rattle.reading.specs.Outcomes.{ending, told, zeros}
+use Rattle.parsing.specs.Outcomes.{ending}
+use Rattle.reading.specs.Outcomes.{told, zeros}
 use Rattle.reading.proofs.Lefts.{clears, clears-lent, outcome-is, tree-is}
 use borrow.Author.Needs.{needs}
 use Rattle.reading.proofs.read_within.Statement.{statement}

@@ -1,0 +1,97 @@
+-- What the code's loop computes: the grammar's machine on numbers, a word at a time. Nothing here is believed: `Simulated` of reading ties it to the
+-- language's bounded machine.
+-- `r` is a rule, `w` the entry on top of the stack, `n` the link of the next node, `m` the number of nodes in the tree, `p` a place.
+use mathlib.Core.Bool.{cond}
+use mathlib.Core.List.{List, [], _∷_, _++_}
+use Prim.Native.Nat.{ℕ, _+_, _-_, _*_, _/_, _%_}
+use lib.Dec.{eqb, leb, ltb}
+use lib.ListN.{getD, set, take, drop}
+use Rattle.language.specs.Answers.{SYNTAX, LEVEL, refusal-number}
+use Rattle.language.specs.Levels.{deepest}
+use Rattle.scanning.specs.Scanning.{Ended, whole, halted}
+use Rattle.parsing.specs.Codes.{rule-list, rule-starts}
+
+-- the parts of an entry of the stack
+abbrev pub sym-in : ℕ → ℕ
+sym-in w = w / 1099511627776
+
+abbrev pub level-in : ℕ → ℕ
+level-in w = w / 4294967296 % 256
+
+abbrev pub link-in : ℕ → ℕ
+link-in w = w / 65536 % 65536
+
+abbrev pub call-in : ℕ → ℕ
+call-in w = w % 65536
+
+-- the parts of a rule
+abbrev pub how-in : ℕ → ℕ
+how-in r = r / 16384 % 8
+
+abbrev pub act-in : ℕ → ℕ
+act-in r = r / 4194304 % 4
+
+abbrev pub kind-in : ℕ → ℕ
+kind-in r = r / 131072 % 32
+
+-- the rule for a kind of word among some, and for an entry and a word: 0 for none
+unfoldable pub found : ℕ → List ℕ → ℕ
+found k [] = 0
+found k (r ∷ rs) = cond (eqb k (r / 16777216)) (r % 16777216) (found k rs)
+
+abbrev pub rules-at : ℕ → List ℕ
+rules-at y = take (getD rule-starts (y + 1) 0 - getD rule-starts y 0) (drop (getD rule-starts y 0) rule-list)
+
+unfoldable pub rule-for : ℕ → ℕ → ℕ
+rule-for w x = cond (leb 41 (sym-in w)) 0 (found (x / 65536) (rules-at (sym-in w)))
+
+-- the level that a rule opens: 0 for none
+unfoldable pub level-opened : ℕ → ℕ → ℕ
+level-opened r w = cond (eqb (how-in r) 2) (level-in w + 1) 0
+
+-- the parts of the entry that is pushed, by how it is pushed
+abbrev pub link-pushed : ℕ → ℕ → ℕ
+link-pushed h w = cond (eqb h 5) (call-in w) (cond (eqb h 3) (link-in w) (cond (eqb h 4) (link-in w) 0))
+
+abbrev pub call-pushed : ℕ → ℕ → ℕ → ℕ
+call-pushed h w n = cond (eqb h 6) n (cond (ltb h 4) (call-in w) 0)
+
+abbrev pub level-pushed : ℕ → ℕ → ℕ
+level-pushed h w = cond (eqb h 2) (level-in w + 1) (level-in w)
+
+abbrev pub above : ℕ → ℕ → ℕ → List ℕ
+above r w n =
+    cond (eqb (how-in r) 0) []
+    ((r / 256 % 64 * 1099511627776 + level-pushed (how-in r) w * 4294967296 + link-pushed (how-in r) w * 65536 + call-pushed (how-in r) w n) ∷ [])
+
+-- what comes beside the new node
+abbrev pub beside : ℕ → ℕ → ℕ → List ℕ
+beside r w n = cond (eqb (r / 128 % 2) 0) [] ((r / 2 % 64 * 1099511627776 + level-in w * 4294967296 + n * 65536 + call-in w) ∷ [])
+
+-- the tree with the sibling before, by its link q, linked to the node m; 0 links nothing
+unfoldable pub linked : ℕ → ℕ → List ℕ → List ℕ
+linked q m l = cond (eqb q 0) l (cond (leb q m) (set l (q - 1) (getD l (q - 1) 0 / 65536 * 65536 + m)) l)
+
+-- the tree with the kind k for the last node
+unfoldable pub retyped : ℕ → ℕ → List ℕ → List ℕ
+retyped k m l = cond (eqb m 0) l (set l (m - 1) (k * 281474976710656 + getD l (m - 1) 0 % 281474976710656))
+
+-- the tree after a rule, and how many nodes it then has
+unfoldable pub wrote : (r w p m : ℕ) → List ℕ → List ℕ
+wrote r w p m l =
+    cond (eqb (act-in r) 0) l
+    (cond (eqb (act-in r) 3) (retyped (kind-in r) m l)
+    (set (linked (link-in w) m l) m (kind-in r * 281474976710656 + p * 4294967296 + cond (eqb (act-in r) 1) 0 (m + 1) * 65536)))
+
+unfoldable pub count : ℕ → ℕ → ℕ
+count r m = cond (eqb (act-in r) 0) m (cond (eqb (act-in r) 3) m (m + 1))
+
+-- the words, the stack from its top on, the tree, how many nodes it has; `end` is the text's length
+unfoldable pub run : (end : ℕ) → List ℕ → List ℕ → List ℕ → ℕ → Ended
+run end [] [] l m = whole l m
+run end [] (w ∷ s) l m = halted (refusal-number SYNTAX) end
+run end (x ∷ ts) [] l m = halted (refusal-number SYNTAX) (x % 65536)
+run end (x ∷ ts) (w ∷ s) l m =
+    cond (eqb (rule-for w x) 0) (halted (refusal-number SYNTAX) (x % 65536))
+    (cond (ltb deepest (level-opened (rule-for w x) w)) (halted (refusal-number LEVEL) (x % 65536))
+    (run end ts (above (rule-for w x) w (m + 1) ++ (beside (rule-for w x) w (m + 1) ++ s)) (wrote (rule-for w x) w (x % 65536) m l) (count (rule-for w x) m)))
