@@ -1,3 +1,4 @@
+use native.Mathlib.Omega.{arith}
 use lib.Seq.{length-take-le}
 use mathlib.Core.Path.{sym}
 use Rattle.reading.specs.Promise.{too-long, too-small}
@@ -7,7 +8,7 @@ use Rattle.reading.proofs.read.Statement.{statement}
 use Rattle.reading.proofs.read.Tie as tie
 
 returns : tie.Need-returns
-returns c = too-long (c .if1 .taken)
+returns c = too-long (omega arith)
 
 returns-2 : tie.Need-returns-2
 returns-2 c =
@@ -22,7 +23,7 @@ returns-3 c =
 returns-4 : tie.Need-returns-4
 returns-4 c =
     let A = c .before .before .before .before .before .before .before .before .args in
-    too-small (c .before .before .before .if1 .left) (no-room-stack (A .text .now) (A .tree .now) (A .words .now) (A .stack .now) (c .before .before .if2 .left) (c .before .if3 .left) (c .if4 .taken))
+    too-small (c .before .before .before .if1 .left) (no-room-stack (A .text .now) (A .tree .now) (A .words .now) (A .stack .now) (c .before .before .if2 .left) (c .before .if3 .left) (omega arith))
 
 slice-relend-prefix-read-within : tie.Need-slice-relend-prefix-read-within
 slice-relend-prefix-read-within c = search needs
