@@ -1,6 +1,6 @@
 // The tree table read node by node, and the names that its places point to: any words and any text, of any length, are read without a refusal.
+use tables::entry;
 ghost use mathlib.Core.Path.{_≡_};
-ghost use lib.ListN.{getD};
 ghost use Rattle.language.specs.Bytes.{same-bytes};
 ghost use Rattle.language.specs.Words.{nameAt};
 ghost use Rattle.language.specs.Names.{meaning};
@@ -16,18 +16,10 @@ pub struct Node {
     pub next: u64,
 }
 
-// The word of the node `i`, and 0 past the table's end.
-fn word_at(tree: &[u64], i: u64) -> u64
-    ensures { λ r. ⌜ r ≡ getD (now (tree .entry)) i 0 ⌝ }
-{
-    let at = i as usize;
-    if at < tree.len() { tree[at] } else { 0 }
-}
-
 pub fn node_at(tree: &[u64], i: u64) -> Node
     ensures { λ r. ⌜ r ≡ nodeAt (now (tree .entry)) i ⌝ }
 {
-    let word = word_at(tree, i);
+    let word = entry(tree, i);
     Node {
         kind: word / 281474976710656,
         place: word / 4294967296 % 65536,
@@ -39,25 +31,25 @@ pub fn node_at(tree: &[u64], i: u64) -> Node
 pub fn kind_at(tree: &[u64], i: u64) -> u64
     ensures { λ r. ⌜ r ≡ nodeAt (now (tree .entry)) i .kind ⌝ }
 {
-    word_at(tree, i) / 281474976710656
+    entry(tree, i) / 281474976710656
 }
 
 pub fn place_at(tree: &[u64], i: u64) -> u64
     ensures { λ r. ⌜ r ≡ nodeAt (now (tree .entry)) i .place ⌝ }
 {
-    word_at(tree, i) / 4294967296 % 65536
+    entry(tree, i) / 4294967296 % 65536
 }
 
 pub fn child_at(tree: &[u64], i: u64) -> u64
     ensures { λ r. ⌜ r ≡ nodeAt (now (tree .entry)) i .child ⌝ }
 {
-    word_at(tree, i) / 65536 % 65536
+    entry(tree, i) / 65536 % 65536
 }
 
 pub fn next_at(tree: &[u64], i: u64) -> u64
     ensures { λ r. ⌜ r ≡ nodeAt (now (tree .entry)) i .next ⌝ }
 {
-    word_at(tree, i) % 65536
+    entry(tree, i) % 65536
 }
 
 // Are these the same bytes?

@@ -4,24 +4,24 @@ use borrow.Author.Needs.{needs}
 use Rattle.stores.proofs.row_at.Statement.{statement}
 use Rattle.stores.proofs.row_at.Tie as tie
 
-mul-word-at : tie.Need-mul-word-at
-mul-word-at c = search needs
+mul-entry : tie.Need-mul-entry
+mul-entry c = search needs
 
-word-at-requires : tie.Need-word-at-requires
-word-at-requires c κs = search needs
+entry-requires : tie.Need-entry-requires
+entry-requires c κs = search needs
 
-mul-word-at-2 : tie.Need-mul-word-at-2
-mul-word-at-2 c = search needs
+mul-entry-2 : tie.Need-mul-entry-2
+mul-entry-2 c = search needs
 
-add-word-at : tie.Need-add-word-at
-add-word-at c = search needs
+add-entry : tie.Need-add-entry
+add-entry c = search needs
 
-word-at-requires-2 : tie.Need-word-at-requires-2
-word-at-requires-2 c κs = search needs
+entry-requires-2 : tie.Need-entry-requires-2
+entry-requires-2 c κs = search needs
 
 returns : tie.Need-returns
 unfolding rowAt pick
-returns c = rw (lt-ltb _ _ (c .before .before .if1 .taken), c .before .word-at .ensures, c .word-at2 .ensures)
+returns c = rw (lt-ltb _ _ (c .before .before .if1 .taken), c .before .entry .ensures, c .entry2 .ensures)
 
 returns-2 : tie.Need-returns-2
 unfolding rowAt pick
@@ -31,10 +31,10 @@ pub row-at-spec : {M : Type 1} → statement M
 row-at-spec =
     tie.close
     (tie.spec
-    mul-word-at
-    word-at-requires
-    mul-word-at-2
-    add-word-at
-    word-at-requires-2
+    mul-entry
+    entry-requires
+    mul-entry-2
+    add-entry
+    entry-requires-2
     returns
     returns-2)
