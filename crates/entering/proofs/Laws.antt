@@ -16,10 +16,39 @@ use Rattle.machine.specs.declared.Counts.{Counts}
 use Rattle.machine.specs.declared.Ending.{Ending}
 use Rattle.machine.specs.declared.Ending.the-variants.{Value, Stop, NoRule}
 use Rattle.machine.specs.Entries.{pick, rowAt, putRow, binding, putBinding, closureWord, nodeOf, envOf}
-use Rattle.machine.specs.State.{Run, Tables, tables, Ret, is, onValue, andThen}
+use Rattle.machine.specs.State.{Run, Tables, tables, Ret, is, onValue, andThen, spend}
 use Rattle.machine.specs.Leaves.{isParam, bodyAfter, bindAll, enter, enterAgain, openFunction, openProcedure, define, defineCell}
 use Rattle.machine.proofs.Ending.{the-type}
-use Rattle.entering.specs.Opening.{opened, withBindings, definitionBy, definition, opens}
+use Rattle.machine.proofs.Members.{no-unit, no-level, goes-in}
+use Rattle.entering.specs.Opening.{guarded, opened, withBindings, definitionBy, definition, opens}
+
+-- ---- entries
+
+module _ (d p : ℕ) (m : Tables) where
+  pub guard-fuel : m .counts .units ≡ 0 → is (Stop 20 p) m ≡ guarded d p m
+  unfolding guarded
+  guard-fuel h = sym (no-unit p m _ d h)
+
+  pub guard-depth : (m .counts .units ≡ 0 → ⊥) → d ≡ 0 → is (Stop 21 p) (spend m) ≡ guarded d p m
+  unfolding guarded
+  guard-depth h z = sym (no-level p m _ d h z)
+
+  pub guard-enters : (m .counts .units ≡ 0 → ⊥) → (d ≡ 0 → ⊥) → is (Value 7 (d - 1)) (spend m) ≡ guarded d p m
+  unfolding guarded
+  guard-enters h z = sym (goes-in p m _ d h z)
+
+pub stop-no-value : (n p t x : ℕ) → Stop n p ≡ Value t x → ⊥
+stop-no-value n p t x h = let e = ap (tagOf the-type) h in omega (arith, e)
+
+pub same-word : (t x u y : ℕ) → Value t x ≡ Value u y → x ≡ y
+same-word t x u y h = ap word-of h
+  where
+    word-of : Ending → ℕ
+    word-of (Value t x) = x
+    word-of (Stop n p) = 0
+    word-of NoRule = 0
+
+-- ---- room
 
 -- n more fit under the limit where the limit less what is taken holds them
 pub room-some : (n taken limit : ℕ) → taken ≤ limit → leb n (limit - taken) ≡ leb (n + taken) limit

@@ -1,14 +1,18 @@
--- What the functions of calls answer, in the evaluator's terms.
-use Prim.Native.Nat.{ℕ, _+_}
+-- What entries, calls and definitions answer, in the evaluator's terms.
+use Prim.Native.Nat.{ℕ, _+_, _-_}
 use mathlib.Core.List.{List}
 use Rattle.machine.specs.declared.Counts.{Counts}
 use lib.Dec.{eqb}
 use Rattle.nodes.specs.declared.Node.{Node}
 use Rattle.nodes.specs.Nodes.{nodeAt}
-use Rattle.machine.specs.declared.Ending.the-variants.{NoRule}
-use Rattle.machine.specs.Entries.{pick, function-tag, recursive-function-tag, procedure-tag, recursive-procedure-tag, closureWord}
-use Rattle.machine.specs.State.{Run, Tables, Ret, is}
+use Rattle.machine.specs.declared.Ending.the-variants.{Value, NoRule}
+use Rattle.machine.specs.Entries.{pick, function-tag, recursive-function-tag, procedure-tag, recursive-procedure-tag, done-tag, closureWord}
+use Rattle.machine.specs.State.{Run, Tables, Ret, is, guard}
 use Rattle.machine.specs.Leaves.{Opened, openFunction, openProcedure, define, defineCell}
+
+-- an entry at place p with d levels left: the answer is how many are left below it
+unfoldable pub guarded : (d p : ℕ) → Tables → Ret
+guarded d p m = guard d p m λ m₁. is (Value done-tag (d - 1)) m₁
 
 -- environment and bindings after a call's are made
 abbrev pub opened : ℕ → List ℕ → Opened

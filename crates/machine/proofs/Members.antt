@@ -10,7 +10,7 @@ use Rattle.machine.specs.declared.Ending.{Ending}
 use Rattle.machine.specs.declared.Ending.the-variants.{Value, Stop, NoRule}
 use Rattle.machine.specs.Entries.{pick}
 use Rattle.machine.specs.State.{Run, Tables, Ret, is, valued, spend, guard}
-use Rattle.machine.specs.Machine.{Evaluators, args, exprBy, round, rounds, cmdBy, cmdIn, cmds, step, evaluators, below, exprAt, blockAt, level, cmdAt, whileAt, roundAt}
+use Rattle.machine.specs.Machine.{Evaluators, args, exprBy, rounds, cmdBy, cmdIn, cmds, step, evaluators, below, exprAt, blockAt, level, cmdAt, whileAt}
 
 pub pick-true : {A : Type 0} (b : Bool) (x y : Unit {0} → A) → T b → pick b x y ≡ x tt
 unfolding pick
@@ -59,37 +59,11 @@ module _ (g : Run) where
       ap (λ (S : Evaluators). S .expr env sp i m) (evaluators-step d) ∙
       ap (λ (a : Node). guard d (a .place) m λ m₁. exprBy g (a .kind) (below g d) env sp a m₁) (sym e)
 
-  -- FUEL, DEPTH, and the entry by its kind k
-  pub expr-no-unit : (d env sp i : ℕ) (m : Tables) (n : Node) → n ≡ nodeAt g.script.tree i → m .counts .units ≡ 0 →
-      exprAt g d env sp i m ≡ is (Stop 20 (n .place)) m
-  expr-no-unit d env sp i m n e h = expr-is d env sp i m n e ∙ no-unit (n .place) m _ d h
-
-  pub expr-no-level : (d env sp i : ℕ) (m : Tables) (n : Node) → n ≡ nodeAt g.script.tree i → (m .counts .units ≡ 0 → ⊥) → d ≡ 0 →
-      exprAt g d env sp i m ≡ is (Stop 21 (n .place)) (spend m)
-  expr-no-level d env sp i m n e h z = expr-is d env sp i m n e ∙ no-level (n .place) m _ d h z
-
-  pub expr-goes-in : (d env sp i : ℕ) (m : Tables) (n : Node) (k : ℕ) → n ≡ nodeAt g.script.tree i → n .kind ≡ k → (m .counts .units ≡ 0 → ⊥) → (d ≡ 0 → ⊥) →
-      exprAt g d env sp i m ≡ exprBy g k (level g (d - 1)) env sp n (spend m)
-  expr-goes-in d env sp i m n k e j h z =
-      expr-is d env sp i m n e ∙ goes-in (n .place) m _ d h z ∙ ap (λ (a : ℕ). exprBy g a (below g d) env sp n (spend m)) j ∙
-      ap (λ (S : Evaluators). exprBy g k S env sp n (spend m)) (below-level d z)
-
-  -- a command that is no WHILE, whose node is n: the same
-  pub cmd-no-unit : (d env sp : ℕ) (m : Tables) (n : Node) → (n .kind ≡ 11 → ⊥) → m .counts .units ≡ 0 → cmdAt g d env sp n m ≡ is (Stop 20 (n .place)) m
+  -- a command that is no WHILE, whose node is n
+  pub cmd-is : (d env sp : ℕ) (m : Tables) (n : Node) → (n .kind ≡ 11 → ⊥) →
+      cmdAt g d env sp n m ≡ guard d (n .place) m λ m₁. cmdBy g (n .kind) (below g d) env sp n m₁
   unfolding cmdAt cmdIn
-  cmd-no-unit d env sp m n w h = pick-false _ _ _ (λ t. w (eqb→eq (n .kind) 11 t)) ∙ no-unit (n .place) m _ d h
-
-  pub cmd-no-level : (d env sp : ℕ) (m : Tables) (n : Node) → (n .kind ≡ 11 → ⊥) → (m .counts .units ≡ 0 → ⊥) → d ≡ 0 →
-      cmdAt g d env sp n m ≡ is (Stop 21 (n .place)) (spend m)
-  unfolding cmdAt cmdIn
-  cmd-no-level d env sp m n w h z = pick-false _ _ _ (λ t. w (eqb→eq (n .kind) 11 t)) ∙ no-level (n .place) m _ d h z
-
-  pub cmd-goes-in : (d env sp : ℕ) (m : Tables) (n : Node) (k : ℕ) → n .kind ≡ k → (n .kind ≡ 11 → ⊥) → (m .counts .units ≡ 0 → ⊥) → (d ≡ 0 → ⊥) →
-      cmdAt g d env sp n m ≡ cmdBy g k (level g (d - 1)) env sp n (spend m)
-  unfolding cmdAt cmdIn
-  cmd-goes-in d env sp m n k j w h z =
-      pick-false _ _ _ (λ t. w (eqb→eq (n .kind) 11 t)) ∙ goes-in (n .place) m _ d h z ∙ ap (λ (a : ℕ). cmdBy g a (below g d) env sp n (spend m)) j ∙
-      ap (λ (S : Evaluators). cmdBy g k S env sp n (spend m)) (below-level d z)
+  cmd-is d env sp m n w = pick-false _ _ _ λ t. w (eqb→eq (n .kind) 11 t)
 
   -- a WHILE is its rounds
   pub cmd-while : (d env sp : ℕ) (m : Tables) (n : Node) → n .kind ≡ 11 → cmdAt g d env sp n m ≡ whileAt g d env sp n m
@@ -118,11 +92,6 @@ module _ (g : Run) where
   pub while-is : (d env sp : ℕ) (n : Node) (m : Tables) → whileAt g d env sp n m ≡ rounds g (suc (m .counts .units)) d (below g d) env sp n m
   unfolding whileAt
   while-is d env sp n m = refl
-
-  -- a round with a level left
-  pub round-is : (d env sp : ℕ) (n : Node) (m : Tables) → (d ≡ 0 → ⊥) → roundAt g d env sp n m ≡ round g d (level g (d - 1)) env sp n m
-  unfolding roundAt
-  round-is d env sp n m z = ap (λ (S : Evaluators). round g d S env sp n m) (below-level d z)
 
 -- a value is worth at most one unit
 pub valued-le : (e : Ending) → valued e ≤ 1

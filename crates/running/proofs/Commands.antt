@@ -9,21 +9,21 @@ use Rattle.nodes.specs.declared.Node.{Node}
 use Rattle.nodes.specs.Nodes.{nodeAt}
 use Rattle.machine.specs.declared.Bounds.{Bounds}
 use Rattle.machine.specs.declared.Ending.{Ending}
-use Rattle.machine.specs.declared.Ending.the-variants.{Value, Stop}
+use Rattle.machine.specs.declared.Ending.the-variants.{Value}
 use Rattle.machine.specs.Entries.{pick}
-use Rattle.machine.specs.State.{Run, running, Tables, Ret, is, onValue, andThen, spend}
+use Rattle.machine.specs.State.{Run, running, Tables, Ret, is, onValue, andThen}
 use Rattle.machine.specs.Leaves.{addressOf, boundTo, define}
-use Rattle.machine.specs.Machine.{onBit, constC, echoC, setC, blockC, ifC, callC, round, rounds, cmdBy, cmds, below, exprAt, blockAt, level, cmdAt}
+use Rattle.machine.specs.Machine.{Evaluators, onBit, constC, echoC, setC, blockC, ifC, callC, round, rounds, cmdBy, cmds, below, exprAt, blockAt, level, cmdAt}
 use Rattle.machine.specs.Machine.{whileAt, roundAt, constAt, echoAt, setAt, ifStatAt, callStatAt}
 use Rattle.machine.specs.Shown.{program}
 use Rattle.machine.proofs.Ending.{the-type}
-use Rattle.machine.proofs.Members.{no-unit, no-level, goes-in, cmd-no-unit, cmd-no-level, cmd-goes-in, cmd-while}
-use Rattle.machine.proofs.Members.{cmds-go, rounds-go, block-is, while-is, round-is}
-use Rattle.entering.specs.Opening.{definitionBy, definition, opens}
+use Rattle.machine.proofs.Members.{cmd-is, cmd-while}
+use Rattle.machine.proofs.Members.{cmds-go, rounds-go, block-is, while-is}
+use Rattle.entering.specs.Opening.{guarded, definitionBy, definition, opens}
 use Rattle.entering.proofs.Laws.{not-value}
 use Rattle.stores.specs.Choices.{isBit, branchOf, roundEnd, echoed, stored}
 use Rattle.running.specs.Parts.{innerC, applyV, applyAt, innerAt, limitsOf}
-use Rattle.running.proofs.Laws.{NotValue, passes, goes, any-value, on-one, on-branch, no-round}
+use Rattle.running.proofs.Laws.{NotValue, passes, goes, any-value, guard-stops, guard-goes, guard-level, on-one, on-branch, no-round}
 
 -- ---- a command is entered
 
@@ -31,46 +31,47 @@ module _ (g : Run) (d env sp : ℕ) (m : Tables) (n : Node) where
   pub cmd-rounds : n .kind ≡ 11 → (q : Ret) → q ≡ whileAt g d env sp n m → q ≡ cmdAt g d env sp n m
   cmd-rounds h q q-is = q-is ∙ sym (cmd-while g d env sp m n h)
 
-  module _ (once : n .kind ≡ 11 → ⊥) where
-    pub cmd-fuel : m .counts .units ≡ 0 → is (Stop 20 (n .place)) m ≡ cmdAt g d env sp n m
-    cmd-fuel h = sym (cmd-no-unit g d env sp m n once h)
+  module _ (once : n .kind ≡ 11 → ⊥) (r : Ret) (r-is : r ≡ guarded d (n .place) m) where
+    pub cmd-stops : NotValue (r .ending) → r ≡ cmdAt g d env sp n m
+    cmd-stops h = guard-stops d (n .place) m r r-is h _ ∙ sym (cmd-is g d env sp m n once)
 
-    module _ (some : m .counts .units ≡ 0 → ⊥) where
-      pub cmd-depth : d ≡ 0 → is (Stop 21 (n .place)) (spend m) ≡ cmdAt g d env sp n m
-      cmd-depth z = sym (cmd-no-level g d env sp m n once some z)
+    module _ (t x : ℕ) (found : r .ending ≡ Value t x) where
+      enters : (k : ℕ) → n .kind ≡ k → cmdBy g k (level g x) env sp n (r .after) ≡ cmdAt g d env sp n m
+      enters k h =
+          sym (
+          cmd-is g d env sp m n once ∙ guard-goes d (n .place) m r r-is t x found _ ∙
+          ap (λ (a : ℕ). cmdBy g a (below g d) env sp n (r .after)) h ∙
+          ap (λ (S : Evaluators). cmdBy g k S env sp n (r .after)) (guard-level d (n .place) m r r-is t x found g)
+          )
 
-      module _ (deep : d ≡ 0 → ⊥) where
-        enters : (k : ℕ) → n .kind ≡ k → cmdBy g k (level g (d - 1)) env sp n (spend m) ≡ cmdAt g d env sp n m
-        enters k h = sym (cmd-goes-in g d env sp m n k h once some deep)
+      pub cmd-const : n .kind ≡ 2 → (q : Ret) → q ≡ constAt g x env sp n (r .after) → q ≡ cmdAt g d env sp n m
+      unfolding cmdBy pick
+      cmd-const h q q-is = q-is ∙ enters 2 h
 
-        pub cmd-const : n .kind ≡ 2 → (q : Ret) → q ≡ constAt g (d - 1) env sp n (spend m) → q ≡ cmdAt g d env sp n m
-        unfolding cmdBy pick
-        cmd-const h q q-is = q-is ∙ enters 2 h
+      pub cmd-echo : n .kind ≡ 8 → (q : Ret) → q ≡ echoAt g x env sp n (r .after) → q ≡ cmdAt g d env sp n m
+      unfolding cmdBy pick
+      cmd-echo h q q-is = q-is ∙ enters 8 h
 
-        pub cmd-echo : n .kind ≡ 8 → (q : Ret) → q ≡ echoAt g (d - 1) env sp n (spend m) → q ≡ cmdAt g d env sp n m
-        unfolding cmdBy pick
-        cmd-echo h q q-is = q-is ∙ enters 8 h
+      pub cmd-set : n .kind ≡ 9 → (q : Ret) → q ≡ setAt g x env sp n (r .after) → q ≡ cmdAt g d env sp n m
+      unfolding cmdBy pick
+      cmd-set h q q-is = q-is ∙ enters 9 h
 
-        pub cmd-set : n .kind ≡ 9 → (q : Ret) → q ≡ setAt g (d - 1) env sp n (spend m) → q ≡ cmdAt g d env sp n m
-        unfolding cmdBy pick
-        cmd-set h q q-is = q-is ∙ enters 9 h
+      pub cmd-if : n .kind ≡ 10 → (q : Ret) → q ≡ ifStatAt g x env sp n (r .after) → q ≡ cmdAt g d env sp n m
+      unfolding cmdBy pick
+      cmd-if h q q-is = q-is ∙ enters 10 h
 
-        pub cmd-if : n .kind ≡ 10 → (q : Ret) → q ≡ ifStatAt g (d - 1) env sp n (spend m) → q ≡ cmdAt g d env sp n m
-        unfolding cmdBy pick
-        cmd-if h q q-is = q-is ∙ enters 10 h
+      pub cmd-call : n .kind ≡ 12 → (q : Ret) → q ≡ callStatAt g x env sp n (r .after) → q ≡ cmdAt g d env sp n m
+      unfolding cmdBy pick
+      cmd-call h q q-is = q-is ∙ enters 12 h
 
-        pub cmd-call : n .kind ≡ 12 → (q : Ret) → q ≡ callStatAt g (d - 1) env sp n (spend m) → q ≡ cmdAt g d env sp n m
-        unfolding cmdBy pick
-        cmd-call h q q-is = q-is ∙ enters 12 h
-
-        pub cmd-plain : (n .kind ≡ 2 → ⊥) → (n .kind ≡ 8 → ⊥) → (n .kind ≡ 9 → ⊥) → (n .kind ≡ 10 → ⊥) → (n .kind ≡ 12 → ⊥) →
-            (q : Ret) → q ≡ definition g env n (spend m) → q ≡ cmdAt g d env sp n m
-        unfolding definition definitionBy cmdBy pick
-        cmd-plain h₂ h₈ h₉ h₁₀ h₁₂ q q-is = q-is ∙ plain (n .kind) h₂ h₈ h₉ h₁₀ h₁₂ ∙ enters (n .kind) refl
-          where
-            plain : (k : ℕ) → (k ≡ 2 → ⊥) → (k ≡ 8 → ⊥) → (k ≡ 9 → ⊥) → (k ≡ 10 → ⊥) → (k ≡ 12 → ⊥) →
-                definitionBy g k env n (spend m) ≡ cmdBy g k (level g (d - 1)) env sp n (spend m)
-            plain k h₂ h₈ h₉ h₁₀ h₁₂ = sym (simp (ne-eqb k 2 h₂, ne-eqb k 8 h₈, ne-eqb k 9 h₉, ne-eqb k 10 h₁₀, ne-eqb k 12 h₁₂))
+      pub cmd-plain : (n .kind ≡ 2 → ⊥) → (n .kind ≡ 8 → ⊥) → (n .kind ≡ 9 → ⊥) → (n .kind ≡ 10 → ⊥) → (n .kind ≡ 12 → ⊥) →
+          (q : Ret) → q ≡ definition g env n (r .after) → q ≡ cmdAt g d env sp n m
+      unfolding definition definitionBy cmdBy pick
+      cmd-plain h₂ h₈ h₉ h₁₀ h₁₂ q q-is = q-is ∙ plain (n .kind) h₂ h₈ h₉ h₁₀ h₁₂ ∙ enters (n .kind) refl
+        where
+          plain : (k : ℕ) → (k ≡ 2 → ⊥) → (k ≡ 8 → ⊥) → (k ≡ 9 → ⊥) → (k ≡ 10 → ⊥) → (k ≡ 12 → ⊥) →
+              definitionBy g k env n (r .after) ≡ cmdBy g k (level g x) env sp n (r .after)
+          plain k h₂ h₈ h₉ h₁₀ h₁₂ = sym (simp (ne-eqb k 2 h₂, ne-eqb k 8 h₈, ne-eqb k 9 h₉, ne-eqb k 10 h₁₀, ne-eqb k 12 h₁₂))
 
 -- ---- what is entered already
 
@@ -142,27 +143,25 @@ module _ (g : Run) (d env sp : ℕ) (m : Tables) (n : Node) where
 
   -- ---- a round of WHILE
 
-  pub round-fuel : m .counts .units ≡ 0 → is (Stop 20 (n .place)) m ≡ roundAt g d env sp n m
-  unfolding roundAt round
-  round-fuel h = sym (no-unit (n .place) m _ d h)
-
-  module _ (some : m .counts .units ≡ 0 → ⊥) where
-    pub round-depth : d ≡ 0 → is (Stop 21 (n .place)) (spend m) ≡ roundAt g d env sp n m
+  module _ (e : Ret) (e-is : e ≡ guarded d (n .place) m) where
+    pub round-stops : NotValue (e .ending) → e ≡ roundAt g d env sp n m
     unfolding roundAt round
-    round-depth z = sym (no-level (n .place) m _ d some z)
+    round-stops h = guard-stops d (n .place) m e e-is h _
 
-    module _ (deep : d ≡ 0 → ⊥) (r : Ret) (r-is : r ≡ exprAt g (d - 1) env sp (n .child) (spend m)) where
+    module _ (u y : ℕ) (entered : e .ending ≡ Value u y) (r : Ret) (r-is : r ≡ exprAt g y env sp (n .child) (e .after)) where
       turn : Ret → Ret
       turn r =
           andThen r λ t x m₁.
           onBit t x m₁
           (λ _.
-          andThen (blockAt g (d - 1) env sp (nodeAt g.script.tree (nodeAt g.script.tree (n .child) .next) .child) m₁) λ _ _ m₂. is (Value 8 env) m₂)
+          andThen (blockAt g y env sp (nodeAt g.script.tree (nodeAt g.script.tree (n .child) .next) .child) m₁) λ _ _ m₂. is (Value 8 env) m₂)
           λ _. is (Value 7 env) m₁
 
       round-turns : roundAt g d env sp n m ≡ turn r
-      unfolding round turn
-      round-turns = round-is g d env sp n m deep ∙ goes-in (n .place) m _ d some deep ∙ ap turn (sym r-is)
+      unfolding roundAt round turn
+      round-turns =
+          ap (λ (S : Evaluators). round g d S env sp n m) (guard-level d (n .place) m e e-is u y entered g) ∙
+          guard-goes d (n .place) m e e-is u y entered _ ∙ ap turn (sym r-is)
 
       pub round-passes : NotValue (r .ending) → r ≡ roundAt g d env sp n m
       unfolding turn
@@ -170,13 +169,13 @@ module _ (g : Run) (d env sp : ℕ) (m : Tables) (n : Node) where
 
       module _ (t x : ℕ) (found : r .ending ≡ Value t x) (c : Bool) (c-is : c ≡ isBit t x 1) where
         pub round-goes : c ≡ true → (i : ℕ) → i ≡ nodeAt g.script.tree (n .child) .next → (q : Ret) →
-            q ≡ innerAt g 8 (d - 1) env sp env i (r .after) → q ≡ roundAt g d env sp n m
+            q ≡ innerAt g 8 y env sp env i (r .after) → q ≡ roundAt g d env sp n m
         unfolding turn innerC
         round-goes h i i-is q q-is = q-is ∙ sym (round-turns ∙ rw (goes r t x found _, ← i-is) (on-one t x (r .after) _ _ (sym c-is ∙ h)))
 
-        pub round-ends : c ≡ false → (e : Ending) → e ≡ roundEnd t x env → is e (r .after) ≡ roundAt g d env sp n m
+        pub round-ends : c ≡ false → (a : Ending) → a ≡ roundEnd t x env → is a (r .after) ≡ roundAt g d env sp n m
         unfolding turn
-        round-ends h e e-is = sym (round-turns ∙ rw (goes r t x found _, e-is) (no-round t x (r .after) _ env (sym c-is ∙ h)))
+        round-ends h a a-is = sym (round-turns ∙ rw (goes r t x found _, a-is) (no-round t x (r .after) _ env (sym c-is ∙ h)))
 
 -- a block within
 module _ (g : Run) (d env sp : ℕ) (m : Tables) (tag ρ i first : ℕ)

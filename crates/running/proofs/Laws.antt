@@ -2,20 +2,22 @@
 use mathlib.Core.Path.{_≡_, refl, sym, ap, subst, _∙_}
 use mathlib.Core.Bool.{Bool, true, false}
 use mathlib.Core.List.{List}
-use mathlib.Core.Logic.{_⊎_}
-use Prim.Native.Nat.{ℕ, _≤_, _<_}
+use mathlib.Core.Logic.{_⊎_, ⊎-elim}
+use Prim.Native.Nat.{ℕ, _-_, _≤_, _<_}
 use native.Mathlib.Omega.{arith}
 use denote.Enum.Declared.{tagOf}
-use lib.Dec.{T, eqb}
+use lib.Dec.{T, eqb, ltb, ltb→lt}
 use borrow.Author.Tests.{eqb-true}
 use Rattle.nodes.specs.Nodes.{nodeAt}
 use Rattle.machine.specs.declared.Ending.{Ending}
 use Rattle.machine.specs.declared.Ending.the-variants.{Value, Stop, NoRule}
 use Rattle.machine.specs.Entries.{pick}
-use Rattle.machine.specs.State.{Tables, Ret, is, valued, onValue, andThen}
-use Rattle.machine.specs.Machine.{onBit}
+use Rattle.machine.specs.State.{Run, Tables, Ret, is, valued, onValue, andThen, spend, guard}
+use Rattle.machine.specs.Machine.{onBit, below, level}
 use Rattle.machine.proofs.Ending.{the-type}
-use Rattle.entering.proofs.Laws.{not-value}
+use Rattle.machine.proofs.Members.{below-level}
+use Rattle.entering.specs.Opening.{guarded}
+use Rattle.entering.proofs.Laws.{not-value, stop-no-value, same-word}
 use Rattle.stores.specs.Choices.{isBit, bitAnswer, branchOf, roundEnd}
 
 -- ---- answers
@@ -55,6 +57,52 @@ follow r k l h = by (r .ending)
 
 pub valued-one : (e : Ending) (t x : ℕ) → e ≡ Value t x → valued e ≡ 1
 valued-one e t x h = ap valued h
+
+-- ---- entries
+
+module _ (d p : ℕ) (m : Tables) (r : Ret) (r-is : r ≡ guarded d p m) where
+  -- what the code found, by whether a unit and a level are left
+  abbrev Found : (unit level : Bool) → Type 0
+  Found a b = r ≡ pick a (λ _. pick b (λ _. is (Value 7 (d - 1)) (spend m)) λ _. is (Stop 21 p) (spend m)) λ _. is (Stop 20 p) m
+
+  -- a stop is what the entry comes to
+  pub guard-stops : NotValue (r .ending) → (k : Tables → Ret) → r ≡ guard d p m k
+  unfolding guarded guard pick
+  guard-stops h k = by (ltb 0 (m .counts .units)) (ltb 0 d) r-is
+    where
+      by : (a b : Bool) → Found a b → r ≡ pick a (λ _. pick b (λ _. k (spend m)) λ _. is (Stop 21 p) (spend m)) λ _. is (Stop 20 p) m
+      by false b e = e
+      by true false e = e
+      by true true e =
+          let z = ap (λ (q : Ret). tagOf the-type (q .ending)) e in
+          absurd (⊎-elim (λ (t : tagOf the-type (r .ending) ≡ 1). omega (arith, z, t)) (λ (t : tagOf the-type (r .ending) ≡ 2). omega (arith, z, t)) h)
+
+  module _ (t x : ℕ) (found : r .ending ≡ Value t x) where
+    -- a value says that the entry goes on, and how many levels are left
+    pub guard-goes : (k : Tables → Ret) → guard d p m k ≡ k (r .after)
+    unfolding guarded guard pick
+    guard-goes k = by (ltb 0 (m .counts .units)) (ltb 0 d) r-is
+      where
+        by : (a b : Bool) → Found a b → pick a (λ _. pick b (λ _. k (spend m)) λ _. is (Stop 21 p) (spend m)) (λ _. is (Stop 20 p) m) ≡ k (r .after)
+        by false b e = absurd (stop-no-value _ _ _ _ (sym (ap (λ (q : Ret). q .ending) e) ∙ found))
+        by true false e = absurd (stop-no-value _ _ _ _ (sym (ap (λ (q : Ret). q .ending) e) ∙ found))
+        by true true e = sym (ap (λ (q : Ret). k (q .after)) e)
+
+    left : (x ≡ d - 1) × (d ≡ 0 → ⊥)
+    unfolding guarded guard pick
+    left = by (ltb 0 (m .counts .units)) (ltb 0 d) refl r-is
+      where
+        by : (a b : Bool) → ltb 0 d ≡ b → Found a b → (x ≡ d - 1) × (d ≡ 0 → ⊥)
+        by false b f e = absurd (stop-no-value _ _ _ _ (sym (ap (λ (q : Ret). q .ending) e) ∙ found))
+        by true false f e = absurd (stop-no-value _ _ _ _ (sym (ap (λ (q : Ret). q .ending) e) ∙ found))
+        by true true f e = (
+          same-word _ _ _ _ (sym found ∙ ap (λ (q : Ret). q .ending) e),
+          λ z. let l = ltb→lt 0 d (subst T (sym f) tt) in omega (arith, l, z),
+        )
+
+    -- one level further down
+    pub guard-level : (g : Run) → below g d ≡ level g x
+    guard-level g = below-level g d (left .1) ∙ ap (level g) (sym (left .0))
 
 -- ---- bits
 

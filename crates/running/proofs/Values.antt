@@ -9,18 +9,18 @@ use borrow.Author.Tests.{eq-eqb, ne-eqb, lt-ltb, le-ltb}
 use Rattle.nodes.specs.declared.Node.{Node}
 use Rattle.nodes.specs.Nodes.{nodeAt}
 use Rattle.machine.specs.declared.Ending.{Ending}
-use Rattle.machine.specs.declared.Ending.the-variants.{Value, Stop, NoRule}
+use Rattle.machine.specs.declared.Ending.the-variants.{Value, NoRule}
 use Rattle.machine.specs.Entries.{pick, putRow}
-use Rattle.machine.specs.State.{Run, Tables, tables, Ret, is, onValue, spend}
+use Rattle.machine.specs.State.{Run, Tables, tables, Ret, is, onValue}
 use Rattle.machine.specs.Leaves.{operate}
-use Rattle.machine.specs.Machine.{Evaluators, onBit, args, allArgs, ifE, andE, orE, operatorE, callE, operatorAt, applyE, exprBy, exprAt, level}
+use Rattle.machine.specs.Machine.{Evaluators, onBit, args, allArgs, ifE, andE, orE, operatorE, callE, operatorAt, applyE, exprBy, below, exprAt, level}
 use Rattle.machine.specs.Machine.{ifAt, operatorIn, callAt, argsAt}
-use Rattle.machine.proofs.Members.{expr-no-unit, expr-no-level, expr-goes-in, args-go}
-use Rattle.entering.specs.Opening.{opens}
+use Rattle.machine.proofs.Members.{expr-is, args-go}
+use Rattle.entering.specs.Opening.{guarded, opens}
 use Rattle.entering.proofs.Laws.{not-value}
 use Rattle.stores.specs.Choices.{isBit, bitAnswer, branchOf, plainBy, plainValue}
 use Rattle.running.specs.Parts.{partsE, applyV, partsAt, applyAt, innerAt}
-use Rattle.running.proofs.Laws.{NotValue, passes, goes, follow, on-one, on-zero, on-branch, not-one, not-zero}
+use Rattle.running.proofs.Laws.{NotValue, passes, goes, follow, guard-stops, guard-goes, guard-level, on-one, on-zero, on-branch, not-one, not-zero}
 
 -- `and` goes on after a 1, and `or` after a 0
 module _ (g : Run) (S : Evaluators) (env sp : ℕ) (n : Node) (m : Tables) where
@@ -61,50 +61,54 @@ by-tests m false false false false a b c d = refl
 
 -- ---- an expression is entered
 
-module _ (g : Run) (d env sp : ℕ) (m : Tables) (i : ℕ) (n : Node) (n-is : n ≡ nodeAt g.script.tree i) where
-  pub expr-fuel : m .counts .units ≡ 0 → is (Stop 20 (n .place)) m ≡ exprAt g d env sp i m
-  expr-fuel h = sym (expr-no-unit g d env sp i m n n-is h)
+module _ (g : Run) (d env sp : ℕ) (m : Tables) (i : ℕ) (n : Node)
+    (n-is : n ≡ nodeAt g.script.tree i)
+    (r : Ret)
+    (r-is : r ≡ guarded d (n .place) m) where
+  pub expr-stops : NotValue (r .ending) → r ≡ exprAt g d env sp i m
+  expr-stops h = guard-stops d (n .place) m r r-is h _ ∙ sym (expr-is g d env sp i m n n-is)
 
-  module _ (some : m .counts .units ≡ 0 → ⊥) where
-    pub expr-depth : d ≡ 0 → is (Stop 21 (n .place)) (spend m) ≡ exprAt g d env sp i m
-    expr-depth z = sym (expr-no-level g d env sp i m n n-is some z)
+  module _ (t x : ℕ) (found : r .ending ≡ Value t x) where
+    enters : (k : ℕ) → n .kind ≡ k → exprBy g k (level g x) env sp n (r .after) ≡ exprAt g d env sp i m
+    enters k h =
+        sym (
+        expr-is g d env sp i m n n-is ∙ guard-goes d (n .place) m r r-is t x found _ ∙
+        ap (λ (a : ℕ). exprBy g a (below g d) env sp n (r .after)) h ∙
+        ap (λ (S : Evaluators). exprBy g k S env sp n (r .after)) (guard-level d (n .place) m r r-is t x found g)
+        )
 
-    module _ (deep : d ≡ 0 → ⊥) where
-      enters : (k : ℕ) → n .kind ≡ k → exprBy g k (level g (d - 1)) env sp n (spend m) ≡ exprAt g d env sp i m
-      enters k h = sym (expr-goes-in g d env sp i m n k n-is h some deep)
+    pub expr-if : n .kind ≡ 20 → (q : Ret) → q ≡ ifAt g x env sp n (r .after) → q ≡ exprAt g d env sp i m
+    unfolding exprBy pick
+    expr-if h q q-is = q-is ∙ enters 20 h
 
-      pub expr-if : n .kind ≡ 20 → (q : Ret) → q ≡ ifAt g (d - 1) env sp n (spend m) → q ≡ exprAt g d env sp i m
-      unfolding exprBy pick
-      expr-if h q q-is = q-is ∙ enters 20 h
+    pub expr-and : n .kind ≡ 21 → (q : Ret) → q ≡ partsAt g 1 x env sp n (r .after) → q ≡ exprAt g d env sp i m
+    unfolding exprBy pick
+    expr-and h q q-is = q-is ∙ parts-and g (level g x) env sp n (r .after) ∙ enters 21 h
 
-      pub expr-and : n .kind ≡ 21 → (q : Ret) → q ≡ partsAt g 1 (d - 1) env sp n (spend m) → q ≡ exprAt g d env sp i m
-      unfolding exprBy pick
-      expr-and h q q-is = q-is ∙ parts-and g (level g (d - 1)) env sp n (spend m) ∙ enters 21 h
+    pub expr-or : n .kind ≡ 22 → (q : Ret) → q ≡ partsAt g 0 x env sp n (r .after) → q ≡ exprAt g d env sp i m
+    unfolding exprBy pick
+    expr-or h q q-is = q-is ∙ parts-or g (level g x) env sp n (r .after) ∙ enters 22 h
 
-      pub expr-or : n .kind ≡ 22 → (q : Ret) → q ≡ partsAt g 0 (d - 1) env sp n (spend m) → q ≡ exprAt g d env sp i m
-      unfolding exprBy pick
-      expr-or h q q-is = q-is ∙ parts-or g (level g (d - 1)) env sp n (spend m) ∙ enters 22 h
+    module _ (h : n .kind ≡ 23) (o : ℕ) (o-is : o ≡ operatorAt g (n .child)) where
+      pub expr-call : o < 3 → (q : Ret) → q ≡ callAt g x env sp n (r .after) → q ≡ exprAt g d env sp i m
+      unfolding exprBy applyE pick
+      expr-call l q q-is = q-is ∙ sym (rw (← o-is, lt-ltb o 3 l)) ∙ enters 23 h
 
-      module _ (h : n .kind ≡ 23) (o : ℕ) (o-is : o ≡ operatorAt g (n .child)) where
-        pub expr-call : o < 3 → (q : Ret) → q ≡ callAt g (d - 1) env sp n (spend m) → q ≡ exprAt g d env sp i m
-        unfolding exprBy applyE pick
-        expr-call l q q-is = q-is ∙ sym (rw (← o-is, lt-ltb o 3 l)) ∙ enters 23 h
+      pub expr-operator : 3 ≤ o → (q : Ret) → q ≡ operatorIn g o x env sp n (r .after) → q ≡ exprAt g d env sp i m
+      unfolding exprBy applyE pick
+      expr-operator l q q-is = q-is ∙ sym (rw (← o-is, le-ltb o 3 l)) ∙ enters 23 h
 
-        pub expr-operator : 3 ≤ o → (q : Ret) → q ≡ operatorIn g o (d - 1) env sp n (spend m) → q ≡ exprAt g d env sp i m
-        unfolding exprBy applyE pick
-        expr-operator l q q-is = q-is ∙ sym (rw (← o-is, le-ltb o 3 l)) ∙ enters 23 h
-
-      pub expr-plain : (n .kind ≡ 20 → ⊥) → (n .kind ≡ 21 → ⊥) → (n .kind ≡ 22 → ⊥) → (n .kind ≡ 23 → ⊥) → (e : Ending) →
-          e ≡ plainValue g.script.tree g.script.text (m .bindings) (m .cells) (spend m .counts) env n → is e (spend m) ≡ exprAt g d env sp i m
-      unfolding plainValue plainBy exprBy pick
-      expr-plain h₁ h₂ h₃ h₄ e e-is = ap (λ (a : Ending). is a (spend m)) e-is ∙ plain (n .kind) h₁ h₂ h₃ h₄ ∙ enters (n .kind) refl
-        where
-          plain : (k : ℕ) → (k ≡ 20 → ⊥) → (k ≡ 21 → ⊥) → (k ≡ 22 → ⊥) → (k ≡ 23 → ⊥) →
-              is (plainBy k g.script.tree g.script.text (m .bindings) (m .cells) (spend m .counts) env n) (spend m) ≡
-              exprBy g k (level g (d - 1)) env sp n (spend m)
-          plain k h₁ h₂ h₃ h₄ =
-              by-tests (spend m) (eqb k 18) (eqb k 19) (eqb k 24) (eqb k 25) _ _ _ _ ∙
-              sym (simp (ne-eqb k 20 h₁, ne-eqb k 21 h₂, ne-eqb k 22 h₃, ne-eqb k 23 h₄))
+    pub expr-plain : (n .kind ≡ 20 → ⊥) → (n .kind ≡ 21 → ⊥) → (n .kind ≡ 22 → ⊥) → (n .kind ≡ 23 → ⊥) → (e : Ending) →
+        e ≡ plainValue g.script.tree g.script.text (r .after .bindings) (r .after .cells) (r .after .counts) env n → is e (r .after) ≡ exprAt g d env sp i m
+    unfolding plainValue plainBy exprBy pick
+    expr-plain h₁ h₂ h₃ h₄ e e-is = ap (λ (a : Ending). is a (r .after)) e-is ∙ plain (n .kind) h₁ h₂ h₃ h₄ ∙ enters (n .kind) refl
+      where
+        plain : (k : ℕ) → (k ≡ 20 → ⊥) → (k ≡ 21 → ⊥) → (k ≡ 22 → ⊥) → (k ≡ 23 → ⊥) →
+            is (plainBy k g.script.tree g.script.text (r .after .bindings) (r .after .cells) (r .after .counts) env n) (r .after) ≡
+            exprBy g k (level g x) env sp n (r .after)
+        plain k h₁ h₂ h₃ h₄ =
+            by-tests (r .after) (eqb k 18) (eqb k 19) (eqb k 24) (eqb k 25) _ _ _ _ ∙
+            sym (simp (ne-eqb k 20 h₁, ne-eqb k 21 h₂, ne-eqb k 22 h₃, ne-eqb k 23 h₄))
 
 -- ---- what is entered already
 

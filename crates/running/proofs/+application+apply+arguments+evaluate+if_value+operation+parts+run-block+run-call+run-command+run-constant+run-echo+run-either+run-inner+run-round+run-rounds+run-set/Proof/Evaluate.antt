@@ -1,10 +1,12 @@
 -- An expression: a unit, a level, and then by its kind.
 use Prim.Native.Nat.{ℕ}
 use native.Mathlib.Omega.{arith}
-use Rattle.running.proofs.Values.{expr-fuel, expr-depth, expr-if, expr-and, expr-or, expr-call, expr-operator, expr-plain}
+use Rattle.running.proofs.Values.{expr-stops, expr-if, expr-and, expr-or, expr-call, expr-operator, expr-plain}
+use Rattle.running.proofs.Laws.{valued-one}
 use Rattle.machine.proofs.Members.{valued-le}
 use borrow.Author.Needs.{needs}
 use Rattle.running.proofs.application.Reads as application-reads
+use Rattle.entering.proofs.guard.Reads as guard-reads
 use Rattle.running.proofs.if_value.Reads as if-value-reads
 use Rattle.nodes.proofs.node_at.Reads as node-at-reads
 use Rattle.running.proofs.operation.Reads as operation-reads
@@ -21,6 +23,8 @@ abbrev called : ℕ → lts.Claims
 called t = (
   node-at-reads.Asked,
   node-at-reads.Learnt,
+  guard-reads.Asked,
+  guard-reads.Learnt,
   if-value-below t,
   if-value-reads.Post,
   parts-below t,
@@ -39,199 +43,272 @@ module _ (t : ℕ) where
   node-at-requires : lts.Need-node-at-requires (called t) (evaluate-at t) own.Post
   node-at-requires c κs = search needs
 
-  returns : lts.Need-returns (called t) (evaluate-at t) own.Post
-  returns c = (expr-fuel _ _ _ _ _ _ _ (c .before .node-at .ensures) (c .if1 .taken), omega arith)
+  guard-requires : lts.Need-guard-requires (called t) (evaluate-at t) own.Post
+  guard-requires c κs = search needs
 
-  sub-t21 : lts.Need-sub-t21 (called t) (evaluate-at t) own.Post
-  sub-t21 c = search needs
-
-  returns-2 : lts.Need-returns-2 (called t) (evaluate-at t) own.Post
-  returns-2 c =
-      let if2 = c .if2 in let if1 = c .before .if1 in let node-at = c .before .before .node-at in
-      (expr-depth _ _ _ _ _ _ _ (node-at .ensures) (if1 .left) (if2 .taken), omega (arith, if1 .left))
-
-  sub-t21-2 : lts.Need-sub-t21-2 (called t) (evaluate-at t) own.Post
-  sub-t21-2 c = search needs
+  enum-known-found : lts.Need-enum-known-found (called t) (evaluate-at t) own.Post
+  enum-known-found c = search needs
 
   if-value-requires : lts.Need-if-value-requires (called t) (evaluate-at t) own.Post
   if-value-requires c κs =
-      let c₁ = c .before .before .before .before .before .before in let if2 = c₁ .if2 in
-      let c₂ = c₁ .before .before .before .before .before .before .before .before in let asked = c₂ .pre in
-      omega (arith, asked, if2 .left)
+      let c₁ = c .before .before .before .before .before .before .before in
+      let found = c₁ .found in
+      let guard = c₁ .before .before .before .guard in
+      let c₂ = c₁ .before .before .before .before .before .before .before .before .before .before in
+      let asked = c₂ .pre in
+      omega (arith, asked, guard .ensures .1 .1 _ _ (found .given .1))
 
   parts-requires : lts.Need-parts-requires (called t) (evaluate-at t) own.Post
   parts-requires c κs =
-      let c₁ = c .before .before .before .before .before .before in let if2 = c₁ .if2 in
-      let c₂ = c₁ .before .before .before .before .before .before .before .before in let asked = c₂ .pre in
-      omega (arith, asked, if2 .left)
+      let c₁ = c .before .before .before .before .before .before .before in
+      let found = c₁ .found in
+      let guard = c₁ .before .before .before .guard in
+      let c₂ = c₁ .before .before .before .before .before .before .before .before .before .before in
+      let asked = c₂ .pre in
+      omega (arith, asked, guard .ensures .1 .1 _ _ (found .given .1))
 
   parts-requires-2 : lts.Need-parts-requires-2 (called t) (evaluate-at t) own.Post
   parts-requires-2 c κs =
-      let c₁ = c .before .before .before .before .before .before in let if2 = c₁ .if2 in
-      let c₂ = c₁ .before .before .before .before .before .before .before .before in let asked = c₂ .pre in
-      omega (arith, asked, if2 .left)
+      let c₁ = c .before .before .before .before .before .before .before in
+      let found = c₁ .found in
+      let guard = c₁ .before .before .before .guard in
+      let c₂ = c₁ .before .before .before .before .before .before .before .before .before .before in
+      let asked = c₂ .pre in
+      omega (arith, asked, guard .ensures .1 .1 _ _ (found .given .1))
 
   operator-at-requires : lts.Need-operator-at-requires (called t) (evaluate-at t) own.Post
   operator-at-requires c κs = search needs
 
   application-requires : lts.Need-application-requires (called t) (evaluate-at t) own.Post
   application-requires c κs =
-      let c₁ = c .before .before .before .before .before .before .before .before in let if2 = c₁ .if2 in
-      let c₂ = c₁ .before .before .before .before .before .before .before .before in let asked = c₂ .pre in
-      omega (arith, asked, if2 .left)
+      let c₁ = c .before .before .before .before .before .before .before .before .before in
+      let found = c₁ .found in
+      let guard = c₁ .before .before .before .guard in
+      let c₂ = c₁ .before .before .before .before .before .before .before .before .before .before in
+      let asked = c₂ .pre in
+      omega (arith, asked, guard .ensures .1 .1 _ _ (found .given .1))
 
   operation-requires : lts.Need-operation-requires (called t) (evaluate-at t) own.Post
   operation-requires c κs =
-      let c₁ = c .before .before .before .before .before .before .before .before in let if2 = c₁ .if2 in
-      let c₂ = c₁ .before .before .before .before .before .before .before .before in let asked = c₂ .pre in
-      omega (arith, asked, if2 .left)
+      let c₁ = c .before .before .before .before .before .before .before .before .before in
+      let found = c₁ .found in
+      let guard = c₁ .before .before .before .guard in
+      let c₂ = c₁ .before .before .before .before .before .before .before .before .before .before in
+      let asked = c₂ .pre in
+      omega (arith, asked, guard .ensures .1 .1 _ _ (found .given .1))
 
   plain-value-requires : lts.Need-plain-value-requires (called t) (evaluate-at t) own.Post
   plain-value-requires c κs = search needs
 
   same-length : lts.Need-same-length (called t) (evaluate-at t) own.Post
-  same-length c = omega (arith, c .before .before .before .before .before .before .before .if-value .kept)
+  same-length c =
+      let c₁ = c .before .before .before .before .before .before .before in
+      let if-value = c₁ .if-value in
+      omega (arith, if-value .kept)
 
   same-length-2 : lts.Need-same-length-2 (called t) (evaluate-at t) own.Post
-  same-length-2 c = omega (arith, c .before .before .before .before .before .before .before .if-value .kept)
+  same-length-2 c =
+      let c₁ = c .before .before .before .before .before .before .before in
+      let if-value = c₁ .if-value in
+      omega (arith, if-value .kept)
 
   same-length-3 : lts.Need-same-length-3 (called t) (evaluate-at t) own.Post
-  same-length-3 c = omega (arith, c .before .before .before .before .before .before .before .if-value .kept)
+  same-length-3 c =
+      let c₁ = c .before .before .before .before .before .before .before in
+      let if-value = c₁ .if-value in
+      omega (arith, if-value .kept)
 
   same-length-4 : lts.Need-same-length-4 (called t) (evaluate-at t) own.Post
-  same-length-4 c = omega (arith, c .before .before .before .before .before .before .before .if-value .kept)
+  same-length-4 c =
+      let c₁ = c .before .before .before .before .before .before .before in
+      let if-value = c₁ .if-value in
+      omega (arith, if-value .kept)
+
+  returns : lts.Need-returns (called t) (evaluate-at t) own.Post
+  returns c =
+      let c₁ = c .before .before .before .before .before .before .before in
+      let if-value = c₁ .if-value in
+      let c₂ = c₁ .before .before .before .before .before in
+      let match2 = c₂ .match2 in
+      let found = c₂ .before .before .before .found in
+      let c₃ = c₂ .before .before .before .before .before .before in
+      let guard = c₃ .guard in
+      let node-at = c₃ .before .node-at in
+      (expr-if _ _ _ _ _ _ _ (node-at .ensures) _ (guard .ensures .0 _ _ _ _) _ _ (found .given .1) (match2 .keys1) _ (if-value .ensures .0), omega (arith, guard .ensures .1 .0, valued-one _ _ _ (found .given .1), if-value .ensures .1, valued-le (if-value .result .ending)))
+
+  same-length-5 : lts.Need-same-length-5 (called t) (evaluate-at t) own.Post
+  same-length-5 c =
+      let c₁ = c .before .before .before .before .before .before .before in
+      let parts = c₁ .parts in
+      omega (arith, parts .kept)
+
+  same-length-6 : lts.Need-same-length-6 (called t) (evaluate-at t) own.Post
+  same-length-6 c =
+      let c₁ = c .before .before .before .before .before .before .before in
+      let parts = c₁ .parts in
+      omega (arith, parts .kept)
+
+  same-length-7 : lts.Need-same-length-7 (called t) (evaluate-at t) own.Post
+  same-length-7 c =
+      let c₁ = c .before .before .before .before .before .before .before in
+      let parts = c₁ .parts in
+      omega (arith, parts .kept)
+
+  same-length-8 : lts.Need-same-length-8 (called t) (evaluate-at t) own.Post
+  same-length-8 c =
+      let c₁ = c .before .before .before .before .before .before .before in
+      let parts = c₁ .parts in
+      omega (arith, parts .kept)
+
+  returns-2 : lts.Need-returns-2 (called t) (evaluate-at t) own.Post
+  returns-2 c =
+      let c₁ = c .before .before .before .before .before .before .before in
+      let parts = c₁ .parts in
+      let c₂ = c₁ .before .before .before .before .before in
+      let match2 = c₂ .match2 in
+      let found = c₂ .before .before .before .found in
+      let c₃ = c₂ .before .before .before .before .before .before in
+      let guard = c₃ .guard in
+      let node-at = c₃ .before .node-at in
+      (expr-and _ _ _ _ _ _ _ (node-at .ensures) _ (guard .ensures .0 _ _ _ _) _ _ (found .given .1) (match2 .keys2) _ (parts .ensures .0), omega (arith, guard .ensures .1 .0, valued-one _ _ _ (found .given .1), parts .ensures .1, valued-le (parts .result .ending)))
+
+  same-length-9 : lts.Need-same-length-9 (called t) (evaluate-at t) own.Post
+  same-length-9 c =
+      let c₁ = c .before .before .before .before .before .before .before in
+      let parts2 = c₁ .parts2 in
+      omega (arith, parts2 .kept)
+
+  same-length-10 : lts.Need-same-length-10 (called t) (evaluate-at t) own.Post
+  same-length-10 c =
+      let c₁ = c .before .before .before .before .before .before .before in
+      let parts2 = c₁ .parts2 in
+      omega (arith, parts2 .kept)
+
+  same-length-11 : lts.Need-same-length-11 (called t) (evaluate-at t) own.Post
+  same-length-11 c =
+      let c₁ = c .before .before .before .before .before .before .before in
+      let parts2 = c₁ .parts2 in
+      omega (arith, parts2 .kept)
+
+  same-length-12 : lts.Need-same-length-12 (called t) (evaluate-at t) own.Post
+  same-length-12 c =
+      let c₁ = c .before .before .before .before .before .before .before in
+      let parts2 = c₁ .parts2 in
+      omega (arith, parts2 .kept)
 
   returns-3 : lts.Need-returns-3 (called t) (evaluate-at t) own.Post
   returns-3 c =
-      let c₁ = c .before .before .before .before .before .before .before in let if-value = c₁ .if-value in
-      let c₂ = c₁ .before .before .before .before .before in let arms = c₂ .match in let if2 = c₂ .before .before .if2 in
-      let c₃ = c₂ .before .before .before in let if1 = c₃ .if1 in let node-at = c₃ .before .node-at in (
-        expr-if _ _ _ _ _ _ _ (node-at .ensures) (if1 .left) (if2 .left) (arms .keys1) _ (if-value .ensures .0),
-        omega (
-          arith,
-          if1 .left,
-          if-value .ensures .1,
-          valued-le (if-value .result .ending),
-        ),
-      )
+      let c₁ = c .before .before .before .before .before .before .before in
+      let parts2 = c₁ .parts2 in
+      let c₂ = c₁ .before .before .before .before .before in
+      let match2 = c₂ .match2 in
+      let found = c₂ .before .before .before .found in
+      let c₃ = c₂ .before .before .before .before .before .before in
+      let guard = c₃ .guard in
+      let node-at = c₃ .before .node-at in
+      (expr-or _ _ _ _ _ _ _ (node-at .ensures) _ (guard .ensures .0 _ _ _ _) _ _ (found .given .1) (match2 .keys3) _ (parts2 .ensures .0), omega (arith, guard .ensures .1 .0, valued-one _ _ _ (found .given .1), parts2 .ensures .1, valued-le (parts2 .result .ending)))
 
-  same-length-5 : lts.Need-same-length-5 (called t) (evaluate-at t) own.Post
-  same-length-5 c = omega (arith, c .before .before .before .before .before .before .before .parts .kept)
+  same-length-13 : lts.Need-same-length-13 (called t) (evaluate-at t) own.Post
+  same-length-13 c =
+      let c₁ = c .before .before .before .before .before .before .before in
+      let application = c₁ .application in
+      omega (arith, application .kept)
 
-  same-length-6 : lts.Need-same-length-6 (called t) (evaluate-at t) own.Post
-  same-length-6 c = omega (arith, c .before .before .before .before .before .before .before .parts .kept)
+  same-length-14 : lts.Need-same-length-14 (called t) (evaluate-at t) own.Post
+  same-length-14 c =
+      let c₁ = c .before .before .before .before .before .before .before in
+      let application = c₁ .application in
+      omega (arith, application .kept)
 
-  same-length-7 : lts.Need-same-length-7 (called t) (evaluate-at t) own.Post
-  same-length-7 c = omega (arith, c .before .before .before .before .before .before .before .parts .kept)
+  same-length-15 : lts.Need-same-length-15 (called t) (evaluate-at t) own.Post
+  same-length-15 c =
+      let c₁ = c .before .before .before .before .before .before .before in
+      let application = c₁ .application in
+      omega (arith, application .kept)
 
-  same-length-8 : lts.Need-same-length-8 (called t) (evaluate-at t) own.Post
-  same-length-8 c = omega (arith, c .before .before .before .before .before .before .before .parts .kept)
+  same-length-16 : lts.Need-same-length-16 (called t) (evaluate-at t) own.Post
+  same-length-16 c =
+      let c₁ = c .before .before .before .before .before .before .before in
+      let application = c₁ .application in
+      omega (arith, application .kept)
 
   returns-4 : lts.Need-returns-4 (called t) (evaluate-at t) own.Post
   returns-4 c =
-      let c₁ = c .before .before .before .before .before .before .before in let parts = c₁ .parts in
-      let c₂ = c₁ .before .before .before .before .before in let arms = c₂ .match in let if2 = c₂ .before .before .if2 in
-      let c₃ = c₂ .before .before .before in let if1 = c₃ .if1 in let node-at = c₃ .before .node-at in (
-        expr-and _ _ _ _ _ _ _ (node-at .ensures) (if1 .left) (if2 .left) (arms .keys2) _ (parts .ensures .0),
-        omega (
-          arith,
-          if1 .left,
-          parts .ensures .1,
-          valued-le (parts .result .ending),
-        ),
-      )
+      let c₁ = c .before .before .before .before .before .before .before in
+      let application = c₁ .application in
+      let c₂ = c₁ .before .before .before .before .before in
+      let if1 = c₂ .if1 in
+      let operator-at = c₂ .before .operator-at in
+      let match2 = c₂ .before .before .match2 in
+      let c₃ = c₂ .before .before .before .before .before in
+      let found = c₃ .found in
+      let guard = c₃ .before .before .before .guard in
+      let c₄ = c₃ .before .before .before .before in
+      let node-at = c₄ .node-at in
+      (expr-call _ _ _ _ _ _ _ (node-at .ensures) _ (guard .ensures .0 _ _ _ _) _ _ (found .given .1) (match2 .keys4) _ (operator-at .ensures _) (if1 .taken) _ (application .ensures .0), omega (arith, guard .ensures .1 .0, valued-one _ _ _ (found .given .1), application .ensures .1, valued-le (application .result .ending)))
 
-  same-length-9 : lts.Need-same-length-9 (called t) (evaluate-at t) own.Post
-  same-length-9 c = omega (arith, c .before .before .before .before .before .before .before .parts2 .kept)
+  same-length-17 : lts.Need-same-length-17 (called t) (evaluate-at t) own.Post
+  same-length-17 c =
+      let c₁ = c .before .before .before .before .before .before .before in
+      let operation = c₁ .operation in
+      omega (arith, operation .kept)
 
-  same-length-10 : lts.Need-same-length-10 (called t) (evaluate-at t) own.Post
-  same-length-10 c = omega (arith, c .before .before .before .before .before .before .before .parts2 .kept)
+  same-length-18 : lts.Need-same-length-18 (called t) (evaluate-at t) own.Post
+  same-length-18 c =
+      let c₁ = c .before .before .before .before .before .before .before in
+      let operation = c₁ .operation in
+      omega (arith, operation .kept)
 
-  same-length-11 : lts.Need-same-length-11 (called t) (evaluate-at t) own.Post
-  same-length-11 c = omega (arith, c .before .before .before .before .before .before .before .parts2 .kept)
+  same-length-19 : lts.Need-same-length-19 (called t) (evaluate-at t) own.Post
+  same-length-19 c =
+      let c₁ = c .before .before .before .before .before .before .before in
+      let operation = c₁ .operation in
+      omega (arith, operation .kept)
 
-  same-length-12 : lts.Need-same-length-12 (called t) (evaluate-at t) own.Post
-  same-length-12 c = omega (arith, c .before .before .before .before .before .before .before .parts2 .kept)
+  same-length-20 : lts.Need-same-length-20 (called t) (evaluate-at t) own.Post
+  same-length-20 c =
+      let c₁ = c .before .before .before .before .before .before .before in
+      let operation = c₁ .operation in
+      omega (arith, operation .kept)
 
   returns-5 : lts.Need-returns-5 (called t) (evaluate-at t) own.Post
   returns-5 c =
-      let c₁ = c .before .before .before .before .before .before .before in let parts2 = c₁ .parts2 in
-      let c₂ = c₁ .before .before .before .before .before in let arms = c₂ .match in let if2 = c₂ .before .before .if2 in
-      let c₃ = c₂ .before .before .before in let if1 = c₃ .if1 in let node-at = c₃ .before .node-at in (
-        expr-or _ _ _ _ _ _ _ (node-at .ensures) (if1 .left) (if2 .left) (arms .keys3) _ (parts2 .ensures .0),
-        omega (
-          arith,
-          if1 .left,
-          parts2 .ensures .1,
-          valued-le (parts2 .result .ending),
-        ),
-      )
+      let c₁ = c .before .before .before .before .before .before .before in
+      let operation = c₁ .operation in
+      let c₂ = c₁ .before .before .before .before .before in
+      let if1 = c₂ .if1 in
+      let operator-at = c₂ .before .operator-at in
+      let match2 = c₂ .before .before .match2 in
+      let c₃ = c₂ .before .before .before .before .before in
+      let found = c₃ .found in
+      let guard = c₃ .before .before .before .guard in
+      let c₄ = c₃ .before .before .before .before in
+      let node-at = c₄ .node-at in
+      (expr-operator _ _ _ _ _ _ _ (node-at .ensures) _ (guard .ensures .0 _ _ _ _) _ _ (found .given .1) (match2 .keys4) _ (operator-at .ensures _) (if1 .left) _ (operation .ensures .0), omega (arith, guard .ensures .1 .0, valued-one _ _ _ (found .given .1), operation .ensures .1, valued-le (operation .result .ending)))
 
-  same-length-13 : lts.Need-same-length-13 (called t) (evaluate-at t) own.Post
-  same-length-13 c = omega (arith, c .before .before .before .before .before .before .before .application .kept)
+  same-length-21 : lts.Need-same-length-21 (called t) (evaluate-at t) own.Post
+  same-length-21 c = omega arith
 
-  same-length-14 : lts.Need-same-length-14 (called t) (evaluate-at t) own.Post
-  same-length-14 c = omega (arith, c .before .before .before .before .before .before .before .application .kept)
-
-  same-length-15 : lts.Need-same-length-15 (called t) (evaluate-at t) own.Post
-  same-length-15 c = omega (arith, c .before .before .before .before .before .before .before .application .kept)
-
-  same-length-16 : lts.Need-same-length-16 (called t) (evaluate-at t) own.Post
-  same-length-16 c = omega (arith, c .before .before .before .before .before .before .before .application .kept)
+  same-length-22 : lts.Need-same-length-22 (called t) (evaluate-at t) own.Post
+  same-length-22 c = omega arith
 
   returns-6 : lts.Need-returns-6 (called t) (evaluate-at t) own.Post
   returns-6 c =
-      let c₁ = c .before .before .before .before .before .before .before in let application = c₁ .application in
-      let c₂ = c₁ .before .before .before .before .before in let if3 = c₂ .if3 in let operator-at = c₂ .before .operator-at in
-      let arms = c₂ .before .before .match in let c₃ = c₂ .before .before .before .before in let if2 = c₃ .if2 in
-      let if1 = c₃ .before .if1 in let node-at = c₃ .before .before .node-at in (
-        expr-call _ _ _ _ _ _ _ (node-at .ensures) (if1 .left) (if2 .left) (arms .keys4) _ (operator-at .ensures _) (if3 .taken) _
-            (application .ensures .0),
-        omega (arith, if1 .left, application .ensures .1, valued-le (application .result .ending)),
-      )
-
-  same-length-17 : lts.Need-same-length-17 (called t) (evaluate-at t) own.Post
-  same-length-17 c = omega (arith, c .before .before .before .before .before .before .before .operation .kept)
-
-  same-length-18 : lts.Need-same-length-18 (called t) (evaluate-at t) own.Post
-  same-length-18 c = omega (arith, c .before .before .before .before .before .before .before .operation .kept)
-
-  same-length-19 : lts.Need-same-length-19 (called t) (evaluate-at t) own.Post
-  same-length-19 c = omega (arith, c .before .before .before .before .before .before .before .operation .kept)
-
-  same-length-20 : lts.Need-same-length-20 (called t) (evaluate-at t) own.Post
-  same-length-20 c = omega (arith, c .before .before .before .before .before .before .before .operation .kept)
+      let plain-value = c .plain-value in
+      let match2 = c .before .before .before .match2 in
+      let c₁ = c .before .before .before .before .before .before in
+      let found = c₁ .found in
+      let guard = c₁ .before .before .before .guard in
+      let c₂ = c₁ .before .before .before .before in
+      let node-at = c₂ .node-at in
+      (expr-plain _ _ _ _ _ _ _ (node-at .ensures) _ (guard .ensures .0 _ _ _ _) _ _ (found .given .1) (match2 .rest .0 .0 .0 .1) (match2 .rest .0 .0 .1) (match2 .rest .0 .1) (match2 .rest .1) _ (plain-value .ensures), omega (arith, guard .ensures .1 .0, valued-one _ _ _ (found .given .1), valued-le (plain-value .result)))
 
   returns-7 : lts.Need-returns-7 (called t) (evaluate-at t) own.Post
   returns-7 c =
-      let c₁ = c .before .before .before .before .before .before .before in let operation = c₁ .operation in
-      let c₂ = c₁ .before .before .before .before .before in let if3 = c₂ .if3 in let operator-at = c₂ .before .operator-at in
-      let arms = c₂ .before .before .match in let c₃ = c₂ .before .before .before .before in let if2 = c₃ .if2 in
-      let if1 = c₃ .before .if1 in let node-at = c₃ .before .before .node-at in (
-        expr-operator _ _ _ _ _ _ _ (node-at .ensures) (if1 .left) (if2 .left) (arms .keys4) _ (operator-at .ensures _) (if3 .left) _
-            (operation .ensures .0),
-        omega (arith, if1 .left, operation .ensures .1, valued-le (operation .result .ending)),
-      )
-
-  same-length-21 : lts.Need-same-length-21 (called t) (evaluate-at t) own.Post
-  same-length-21 c = omega (arith)
-
-  same-length-22 : lts.Need-same-length-22 (called t) (evaluate-at t) own.Post
-  same-length-22 c = omega (arith)
-
-  returns-8 : lts.Need-returns-8 (called t) (evaluate-at t) own.Post
-  returns-8 c =
-      let plain-value = c .plain-value in let c₁ = c .before .before .before in let arms = c₁ .match in let if2 = c₁ .before .before .if2 in
-      let c₂ = c₁ .before .before .before in let if1 = c₂ .if1 in let node-at = c₂ .before .node-at in (
-        expr-plain _ _ _ _ _ _ _ (node-at .ensures) (if1 .left) (if2 .left) (arms .rest .0 .0 .0 .1) (arms .rest .0 .0 .1) (arms .rest .0 .1)
-            (arms .rest .1) _ (plain-value .ensures),
-        omega (arith, if1 .left, valued-le (plain-value .result)),
-      )
+      let match = c .match in
+      let guard = c .before .before .guard in
+      let node-at = c .before .before .before .node-at in
+      (expr-stops _ _ _ _ _ _ _ (node-at .ensures) _ (guard .ensures .0 _ _ _ _) (match .keys2), guard .ensures .1 .0)
 
   pub closed : {M : Type 1} → lts.Closed (called t) (evaluate-at t) own.Post M
-  closed =
-      lts.spec (called t) (evaluate-at t) own.Post node-at-requires returns sub-t21 returns-2 sub-t21-2 if-value-requires parts-requires
-      parts-requires-2 operator-at-requires application-requires operation-requires plain-value-requires same-length same-length-2
-      same-length-3 same-length-4 returns-3 same-length-5 same-length-6 same-length-7 same-length-8 returns-4 same-length-9 same-length-10
-      same-length-11 same-length-12 returns-5 same-length-13 same-length-14 same-length-15 same-length-16 returns-6 same-length-17
-      same-length-18 same-length-19 same-length-20 returns-7 same-length-21 same-length-22 returns-8
+  closed = lts.spec (called t) (evaluate-at t) own.Post node-at-requires guard-requires enum-known-found if-value-requires parts-requires parts-requires-2 operator-at-requires application-requires operation-requires plain-value-requires same-length same-length-2 same-length-3 same-length-4 returns same-length-5 same-length-6 same-length-7 same-length-8 returns-2 same-length-9 same-length-10 same-length-11 same-length-12 returns-3 same-length-13 same-length-14 same-length-15 same-length-16 returns-4 same-length-17 same-length-18 same-length-19 same-length-20 returns-5 same-length-21 same-length-22 returns-6 returns-7
