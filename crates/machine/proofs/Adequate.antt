@@ -14,32 +14,32 @@ use Rattle.machine.specs.Entries.{pick}
 use Rattle.machine.specs.State.{Tables}
 use Rattle.machine.specs.Machine.{Evaluators, rounds, cmdIn, step, evaluators}
 use Rattle.machine.specs.Machine as M
-use Rattle.machine.proofs.Relation.{Stage, run-of, R, Sim, goes, Spent, IsEnv, IsDone, Here, Adeq, AdeqC, node}
+use Rattle.machine.proofs.Relation.{Stage, run-of, slot, R, Sim, goes, Spent, IsEnv, IsDone, Here, Adeq, AdeqC, node}
 use Rattle.machine.proofs.Agree.{grow-self, sim-yes, sim-no, sim-bind, sim-end}
-use Rattle.machine.proofs.States.{spending, sim-guard, sim-deep}
+use Rattle.machine.proofs.States.{sim-guard, sim-deep}
 use Rattle.machine.proofs.Rounds.{rounds-step}
-use Rattle.machine.proofs.Expressions.{onward, expr-sim, arg-sim}
+use Rattle.machine.proofs.Expressions.{onward, inside, expr-sim, arg-sim}
 use Rattle.machine.proofs.Commands.{def-sim, stat-sim}
 
 module _ {g : Stage} where
   -- ---- commands one after the other
 
   last-sim : (d : ℕ) (S : Evaluators) (k env i : ℕ) {u : Unit {0}} {sp : ℕ} {s : State} {m : Tables} → m .counts .units < k → i ≡ 0 → R g s m →
-      Sim g (λ u t x m₁. Unit {0}) sp m (ok u s) (M.cmds (run-of g) k d S env sp i m)
+      Sim g (λ u t x m₁. Unit {0}) sp m (ok u s) (M.cmds (run-of g) k d S env (slot sp) i m)
   unfolding M.cmds
   last-sim d S zero env i c e r = absurd (not-suc-le-zero c)
   last-sim d S (suc k) env i c e r = rw e (sim-yes _ _ tt (goes tt r grow-self))
 
   module _ {d : ℕ} {l : Level} {S : Evaluators} where
     cmds-sim : AdeqC g d l S → {i : ℕ} {cs : Cmds} → AtCs g.script i cs → (k : ℕ) {ρ : Env} {env sp : ℕ} {s : State} {m : Tables} → m .counts .units < k →
-        Here g d ρ env sp s m → Sim g (λ u t x m₁. Unit {0}) sp m (cmds l cs ρ s) (M.cmds (run-of g) k d S env sp i m)
+        Here g ρ env s m → Sim g (λ u t x m₁. Unit {0}) sp m (cmds l cs ρ s) (M.cmds (run-of g) k d S env (slot sp) i m)
     unfolding M.cmds
     cmds-sim h a zero c x = absurd (not-suc-le-zero c)
     cmds-sim h (at-last a e) (suc k) c x =
         sim-no _ _ (λ t. stat-there a (eqb→eq _ _ t)) (sim-end (h .onS a x) λ u s₁ t y m₁ v r₁ gr. last-sim d S k y _ (omega (arith, v .less)) e r₁)
     cmds-sim h (at-def-then a b) (suc k) c x =
         sim-no _ _ (λ t. def-there a (eqb→eq _ _ t)) (sim-bind (h .onD a x) λ ρ₁ s₁ t y m₁ v r₁ gr.
-        cmds-sim h b k (omega (arith, v .less)) (record { names′ = v .it; room = x .room; st = r₁ }))
+        cmds-sim h b k (omega (arith, v .less)) (record { names′ = v .it; st = r₁ }))
     cmds-sim h (at-stat-then a b) (suc k) c x =
         sim-no _ _ (λ t. stat-there a (eqb→eq _ _ t)) (sim-bind (h .onS a x) λ u s₁ t y m₁ v r₁ gr.
         rw (v .it) (cmds-sim h b k (omega (arith, v .less)) (onward x r₁ gr)))
@@ -47,14 +47,14 @@ module _ {g : Stage} where
   -- ---- no level left
 
   deep-kind : {A : Type 0} {P : A → (t x : ℕ) → Tables → Type 0} (k i env : ℕ) {o : Outcome A} {sp : ℕ} {m : Tables} → kind g.script i ≡ k →
-      Sim g P sp m o (cmdIn (run-of g) k zero (M.bottom (run-of g)) env sp (node g i) m) →
-      Sim g P sp m o (cmdIn (run-of g) (kind g.script i) zero (M.bottom (run-of g)) env sp (node g i) m)
+      Sim g P sp m o (cmdIn (run-of g) k zero (M.bottom (run-of g)) env (slot sp) (node g i) m) →
+      Sim g P sp m o (cmdIn (run-of g) (kind g.script i) zero (M.bottom (run-of g)) env (slot sp) (node g i) m)
   deep-kind {P = P} k i env {o} {sp} {m} e f =
-      subst (λ (j : ℕ). Sim g P sp m o (cmdIn (run-of g) j zero (M.bottom (run-of g)) env sp (node g i) m)) (sym e) f
+      subst (λ (j : ℕ). Sim g P sp m o (cmdIn (run-of g) j zero (M.bottom (run-of g)) env (slot sp) (node g i) m)) (sym e) f
 
   deep-def : (env : ℕ) {i : ℕ} {c : Def} {sp : ℕ} {s : State} {m : Tables} → AtD g.script i c → R g s m →
       Sim g (Spent g m (IsEnv g)) sp m (enter g.limits (place-def c) s λ s₁. halt (stop (limit DEPTH)) (place-def c) s₁)
-      (cmdIn (run-of g) (kind g.script i) zero (M.bottom (run-of g)) env sp (node g i) m)
+      (cmdIn (run-of g) (kind g.script i) zero (M.bottom (run-of g)) env (slot sp) (node g i) m)
   unfolding cmdIn pick
   deep-def env (at-const k n a e z) r = deep-kind 2 _ _ (k .kind-is) (sim-deep _ _ r)
   deep-def env (at-fun k n a ps e z) r = deep-kind 3 _ _ (k .kind-is) (sim-deep _ _ r)
@@ -65,13 +65,13 @@ module _ {g : Stage} where
 
   deep-rounds : (i env : ℕ) {A : Type 0} {P : A → (t x : ℕ) → Tables → Type 0} {sp : ℕ} {s : State} {m : Tables} → R g s m →
       Sim g P sp m (enter g.limits (node g i .place) s λ s₁. halt (stop (limit DEPTH)) (node g i .place) s₁)
-      (rounds (run-of g) (suc (m .counts .units)) zero (M.bottom (run-of g)) env sp (node g i) m)
+      (rounds (run-of g) (suc (m .counts .units)) zero (M.bottom (run-of g)) env (slot sp) (node g i) m)
   deep-rounds i env {sp = sp} {m = m} r =
-      rw (rounds-step (run-of g) zero (M.bottom (run-of g)) env sp (node g i) (m .counts .units) m) (sim-deep _ _ r)
+      rw (rounds-step (run-of g) zero (M.bottom (run-of g)) env (slot sp) (node g i) (m .counts .units) m) (sim-deep _ _ r)
 
   deep-stat : {i : ℕ} {c : Stat} {env sp : ℕ} {s : State} {m : Tables} → AtS g.script i c → R g s m →
       Sim g (Spent g m (IsDone env)) sp m (enter g.limits (place-stat c) s λ s₁. halt (stop (limit DEPTH)) (place-stat c) s₁)
-      (cmdIn (run-of g) (kind g.script i) zero (M.bottom (run-of g)) env sp (node g i) m)
+      (cmdIn (run-of g) (kind g.script i) zero (M.bottom (run-of g)) env (slot sp) (node g i) m)
   unfolding cmdIn pick
   deep-stat (at-echo k e z) r = deep-kind 8 _ _ (k .kind-is) (sim-deep _ _ r)
   deep-stat (at-set k n e z) r = deep-kind 9 _ _ (k .kind-is) (sim-deep _ _ r)
@@ -81,7 +81,7 @@ module _ {g : Stage} where
 
   -- ---- every depth, every node, every environment, every related state
 
-  pub adequate : (d : ℕ) → Adeq g d (level g.limits d) (evaluators (run-of g) d)
+  pub adequate : (d : ℕ) → Adeq g (level g.limits d) (evaluators (run-of g) d)
   unfolding level evaluators step
   adequate zero =
       record {
@@ -92,7 +92,7 @@ module _ {g : Stage} where
   adequate (suc d) =
       let h = adequate d in
       record {
-        onE = λ a x. rw (expr-place a) (sim-guard d _ _ (x .st) λ r. expr-sim h a (onward x r (spending _)));
-        onA = λ a x. rw (arg-place a) (sim-guard d _ _ (x .st) λ r. arg-sim h a (onward x r (spending _)));
-        onC = λ a x. cmds-sim (record { onD = λ b y. def-sim h b y; onS = λ b y. stat-sim h b y }) a _ (le-refl _) x;
+        onE = λ a x. rw (expr-place a) (sim-guard d _ _ (x .st) λ r. expr-sim h a (inside x r));
+        onA = λ a x. rw (arg-place a) (sim-guard d _ _ (x .st) λ r. arg-sim h a (inside x r));
+        onC = λ a x. cmds-sim (record { onD = λ b y. def-sim d h b y; onS = λ b y. stat-sim d h b y }) a _ (le-refl _) x;
       }

@@ -3,16 +3,17 @@ use mathlib.Core.Path.{_≡_, refl, _∙_}
 use mathlib.Core.Bool.{Bool, true, false, cond}
 use mathlib.Core.List.{List}
 use mathlib.Core.Option.{Option, none, some}
-use Prim.Native.Nat.{ℕ, zero, suc, _-_, _≤_, _<_}
+use Prim.Native.Nat.{ℕ, zero, suc, _+_, _-_, _≤_, _<_}
 use native.Mathlib.Nat.{le-refl, le-trans, not-suc-le-zero}
 use native.Mathlib.Omega.{arith}
 use lib.Dec.{T, eqb, ltb, eqb·suc-zero, eqb·suc-suc}
 use lib.IntN.{pos, negsuc}
+use lib.ListN.{length}
 use mir.Syntax.{w64}
 use mir.Val.{toZ, sel}
 use Rattle.language.specs.Answers.{LimitStop, Stop, limit, stop-number}
 use Rattle.language.specs.Numbers.{as-bit}
-use Rattle.language.specs.Rules.{Val, Env, State, Outcome, ok, bind, need, within, branch, lookup-env, as-number, as-truth, as-address}
+use Rattle.language.specs.Rules.{Val, Env, State, no-rule, Outcome, ok, halt, bind, need, within, branch, lookup-env, as-number, as-truth, as-address}
 use Rattle.machine.specs.declared.Row.{Row}
 use Rattle.machine.specs.declared.Ending.{Ending}
 use Rattle.machine.specs.declared.Ending.the-variants.{Value, NoRule}
@@ -22,7 +23,7 @@ use Rattle.machine.specs.State.{Tables, Ret, is, andThen}
 use Rattle.machine.specs.Machine.{onBit}
 use Rattle.machine.specs.Leaves.{sameName, walk}
 use Rattle.machine.proofs.Lists.{Asks, asks-yes, asks-no}
-use Rattle.machine.proofs.Relation.{Stage, Kept, Thing, Old, Rep, v-num, v-fun, v-rec, v-proc, v-proc-rec, v-adr, e-none, e-bound, ValR, EnvR, Found, found, lost, CellR, c-unset, c-set, Waits, w-none, w-more, R, Grow, Sim, goes, stops, no-way, Spent, name-in}
+use Rattle.machine.proofs.Relation.{Stage, Kept, Thing, Old, Rep, v-num, v-fun, v-rec, v-proc, v-proc-rec, v-adr, e-none, e-bound, ValR, EnvR, Found, found, lost, CellR, c-unset, c-set, Waits, w-none, w-more, R, Grow, Sim, goes, stops, no-way, Spent, Made, Some, Waiting, name-in}
 
 less-one : (k : ℕ) → suc k - 1 ≡ k
 less-one k = omega arith
@@ -31,6 +32,10 @@ walk-suc : (text b : List ℕ) (q n k : ℕ) → walk text b q (suc n) (suc k) �
     pick (sameName text (bindingAt b k .place) q) (λ _. Value (bindingAt b k .tag) (bindingAt b k .word)) λ _. walk text b q n (bindingAt b k .link)
 unfolding walk pick
 walk-suc text b q n k = rw (eqb·suc-zero k, less-one k)
+
+pub bind-ok : {A B : Type 0} (a : A) (s : State) (k : A → State → Outcome B) → bind (ok a s) k ≡ k a s
+unfolding bind
+bind-ok a s k = refl
 
 -- ---- tables
 
@@ -101,30 +106,32 @@ module _ {g : Stage} where
   -- ---- states that go on
 
   pub grow-self : {sp : ℕ} {m : Tables} → Grow g sp m m
-  grow-self = record { more = le-refl _; old = λ k h. refl; waits = λ k h. refl; fell = le-refl _ }
+  grow-self = record { more = le-refl _; old = λ k h. refl; waits = λ k s h. refl; fell = le-refl _ }
 
   pub grow-trans : {sp : ℕ} {m m₁ m₂ : Tables} → Grow g sp m m₁ → Grow g sp m₁ m₂ → Grow g sp m m₂
   grow-trans a b =
       record {
         more = le-trans (a .more) (b .more);
         old = λ k s. b .old k (le-trans s (a .more)) ∙ a .old k s;
-        waits = λ k s. b .waits k s ∙ a .waits k s;
+        waits = λ k s h. b .waits k s (omega (arith, a .more, h)) ∙ a .waits k s (omega (arith, b .more, h));
         fell = le-trans (b .fell) (a .fell);
       }
 
-  pub grow-low : {sp sp′ : ℕ} {m m₁ : Tables} → sp ≤ sp′ → Grow g sp′ m m₁ → Grow g sp m m₁
-  grow-low l a = record { more = a .more; old = a .old; waits = λ k s. a .waits k (le-trans s l); fell = a .fell }
+  -- where nothing waits below
+  pub grow-low : {sp : ℕ} {m m₁ : Tables} → Grow g sp m m₁ → Grow g 0 m m₁
+  grow-low a = record { more = a .more; old = a .old; waits = λ k s h. absurd (not-suc-le-zero s); fell = a .fell }
+
+  pub some-sim : {A : Type 0} {P : List A → (t x : ℕ) → Tables → Type 0} {sp : ℕ} {m : Tables} {o : Outcome (List A)} {r : Ret} →
+      Sim g (Some g P) sp m o r → Sim g P sp m o r
+  some-sim (goes p s h) = goes (p .it) s h
+  some-sim (stops s) = stops s
+  some-sim (no-way s) = no-way s
 
   module _ {A : Type 0} {P : A → (t x : ℕ) → Tables → Type 0} where
     pub sim-lift : {sp : ℕ} {m m₁ : Tables} {o : Outcome A} {r : Ret} → Grow g sp m m₁ → Sim g P sp m₁ o r → Sim g P sp m o r
     sim-lift a (goes p s h) = goes p s (grow-trans a h)
     sim-lift a (stops s) = stops s
     sim-lift a (no-way s) = no-way s
-
-    pub sim-low : {sp sp′ : ℕ} {m : Tables} {o : Outcome A} {r : Ret} → sp ≤ sp′ → Sim g P sp′ m o r → Sim g P sp m o r
-    sim-low l (goes p s h) = goes p s (grow-low l h)
-    sim-low l (stops s) = stops s
-    sim-low l (no-way s) = no-way s
 
     -- an answer that took a unit is an answer; one from a state with fewer units took one
     pub relax : {sp : ℕ} {m : Tables} {o : Outcome A} {r : Ret} → Sim g (Spent g m P) sp m o r → Sim g P sp m o r
@@ -137,6 +144,13 @@ module _ {g : Stage} where
     tighten l a (goes p s h) = goes (record { it = p; less = omega (arith, h .fell) }) s (grow-trans a h)
     tighten l a (stops s) = stops s
     tighten l a (no-way s) = no-way s
+
+    -- an answer from a state with n bindings more made them
+    pub making : (n : ℕ) {sp : ℕ} {m m₁ : Tables} {o : Outcome A} {r : Ret} → n + m .counts .bindings ≤ m₁ .counts .bindings → Sim g P sp m₁ o r →
+        Sim g (Made g n m P) sp m₁ o r
+    making n l (goes p s h) = goes (record { it = p; made = le-trans l (h .more) }) s h
+    making n l (stops s) = stops s
+    making n l (no-way s) = no-way s
 
     -- a test of the machine alone
     pub sim-yes : (b : Bool) {sp : ℕ} {m : Tables} {o : Outcome A} {r : Ret} (k : Unit {0} → Ret) → T b → Sim g P sp m o r → Sim g P sp m o (pick b (λ _. r) k)
@@ -175,6 +189,23 @@ module _ {g : Stage} where
     sim-bind (stops s) f = stops s
     sim-bind (no-way s) f = no-way s
 
+    -- one of some arguments, and then the others, whatever waits below
+    pub sim-each : {sp : ℕ} {m : Tables} {o : Outcome A} {r : Ret} {k : A → State → Outcome B} {k′ : ℕ → ℕ → Tables → Ret} → Sim g P sp m o r →
+        ((a : A) (s : State) (t x : ℕ) (m₁ : Tables) → P a t x m₁ → R g s m₁ → Grow g sp m m₁ → Sim g Q 0 m₁ (k a s) (k′ t x m₁)) →
+        Sim g Q 0 m (bind o k) (andThen r k′)
+    unfolding bind andThen
+    sim-each (goes p s a) f = sim-lift (grow-low a) (f _ _ _ _ _ p s a)
+    sim-each (stops s) f = stops s
+    sim-each (no-way s) f = no-way s
+
+    -- an evaluation after which no rule fits
+    pub sim-stuck : {sp sp′ : ℕ} {m : Tables} {o : Outcome A} {r : Ret} {k : A → State → Outcome B} → Sim g P sp′ m o r → (p : ℕ) →
+        ((a : A) (s : State) (t x : ℕ) (m₁ : Tables) → P a t x m₁ → k a s ≡ halt no-rule p s) → Sim g Q sp m (bind o k) (andThen r λ _ _ m₁. is NoRule m₁)
+    unfolding bind andThen
+    sim-stuck (goes p s a) q f = rw (f _ _ _ _ _ p) (no-way s)
+    sim-stuck (stops s) q f = stops s
+    sim-stuck (no-way s) q f = no-way s
+
     -- the rules change the answer, the machine does not
     pub sim-map : {sp : ℕ} {m : Tables} {o : Outcome A} {r : Ret} (f : A → B) → Sim g P sp m o r →
         ((a : A) (t x : ℕ) (m₁ : Tables) → P a t x m₁ → Grow g sp m m₁ → Q (f a) t x m₁) → Sim g Q sp m (bind o (λ a s. ok (f a) s)) r
@@ -182,6 +213,41 @@ module _ {g : Stage} where
     sim-map h (goes p s a) f = goes (f _ _ _ _ p a) s a
     sim-map h (stops s) f = stops s
     sim-map h (no-way s) f = no-way s
+
+  -- arguments, and then what makes a binding of each
+  module _ {B : Type 0} {Q : B → (t x : ℕ) → Tables → Type 0} where
+    called : {sp t x : ℕ} {us : List Val} {m m₁ : Tables} {o : Outcome B} {r : Ret} → Waiting g m sp 0 us t x m₁ → Grow g 0 m m₁ →
+        Sim g (Made g (length us) m₁ Q) sp m₁ o r → Sim g Q sp m o r
+    called w a (goes p s h) =
+        goes (p .it) s (record {
+          more = le-trans (a .more) (h .more);
+          old = λ k l. h .old k (le-trans l (a .more)) ∙ a .old k l;
+          waits = λ k l b. h .waits k l (omega (arith, a .more, b)) ∙ w .keeps k l (omega (arith, p .made, b));
+          fell = le-trans (h .fell) (a .fell);
+        })
+    called w a (stops s) = stops s
+    called w a (no-way s) = no-way s
+
+    pub sim-call : {sp : ℕ} {m : Tables} {o : Outcome (List Val)} {r : Ret} {k : List Val → State → Outcome B} {k′ : ℕ → ℕ → Tables → Ret} →
+        Sim g (Waiting g m sp 0) 0 m o r →
+        ((us : List Val) (s : State) (t x : ℕ) (m₁ : Tables) → Waiting g m sp 0 us t x m₁ → R g s m₁ → Grow g 0 m m₁ →
+        Sim g (Made g (length us) m₁ Q) sp m₁ (k us s) (k′ t x m₁)) → Sim g Q sp m (bind o k) (andThen r k′)
+    unfolding bind andThen
+    sim-call (goes w s a) f = called w a (f _ _ _ _ _ w s a)
+    sim-call (stops s) f = stops s
+    sim-call (no-way s) f = no-way s
+
+  -- parts of the rules that the machine has in one
+  module _ {A B : Type 0} {Q : B → (t x : ℕ) → Tables → Type 0} {sp : ℕ} {m : Tables} {r : Ret} where
+    pub sim-ok : (a : A) (s : State) (k : A → State → Outcome B) → Sim g Q sp m (k a s) r → Sim g Q sp m (bind (ok a s) k) r
+    unfolding bind
+    sim-ok a s k h = h
+
+    pub sim-after : {C : Type 0} (o : Outcome C) (f : C → State → Outcome A) (k : A → State → Outcome B) → Sim g Q sp m (bind o λ a s. bind (f a s) k) r →
+        Sim g Q sp m (bind (bind o f) k) r
+    unfolding bind
+    sim-after (ok a s) f k h = h
+    sim-after (halt w p s) f k h = h
 
   module _ {A : Type 0} {P : A → (t x : ℕ) → Tables → Type 0} {Q : A → (t x : ℕ) → Tables → Type 0} where
     -- the machine changes the answer, the rules do not

@@ -5,6 +5,7 @@ use Prim.Native.Nat.{ℕ, zero, suc, _≤_, _<_}
 use native.Mathlib.Nat.{le-refl, not-suc-le-zero}
 use native.Mathlib.Omega.{arith}
 use lib.Dec.{leb→le, ltb→lt}
+use lib.ListN.{length}
 use Rattle.language.specs.Syntax.{Expr, TypeTree, ExprP, Def, const, var, Stat, echo, if-stat, call, Block}
 use Rattle.language.specs.Syntax as Syntax
 use Rattle.language.specs.Places.{place-def, place-stat}
@@ -17,14 +18,14 @@ use Rattle.machine.specs.Leaves.{define, defineCell}
 use Rattle.machine.specs.Machine.{Evaluators, constC, echoC, setC, blockC, ifC, callC, rounds, cmdBy, cmdIn}
 use Rattle.machine.proofs.Entries.{place-small, child-small, next-small}
 use Rattle.machine.proofs.Lists.{asks-stored, room-one}
-use Rattle.machine.proofs.Relation.{Stage, run-of, v-adr, R, Sim, goes, Spent, IsEnv, IsDone, Here, Adeq, Named, IsVal, node, name-in}
-use Rattle.machine.proofs.Agree.{keep, grow-self, sim-lift, relax, sim-within, sim-bind, sim-end, sim-need, asks-num, sim-bit}
-use Rattle.machine.proofs.States.{old-more, r-bind, r-put-out, r-cell, r-store, spending, sim-guard}
+use Rattle.machine.proofs.Relation.{Stage, run-of, slot, v-adr, R, Sim, goes, Spent, IsEnv, IsDone, Here, Adeq, Named, IsVal, node, name-in}
+use Rattle.machine.proofs.Agree.{keep, grow-self, sim-lift, relax, making, sim-within, sim-bind, sim-call, sim-end, sim-need, asks-num, sim-bit}
+use Rattle.machine.proofs.States.{old-more, r-bind, r-put-out, r-cell, r-store, sim-guard}
 use Rattle.machine.proofs.Closures.{function-value, procedure-value, recursive-function-value, recursive-procedure-value}
 use Rattle.machine.proofs.Enter.{env-more, kept-binding, procedure-sim, sim-open}
 use Rattle.machine.proofs.Names.{sim-look, sim-address}
 use Rattle.machine.proofs.Rounds.{rounds-step}
-use Rattle.machine.proofs.Expressions.{onward, lower, all-args}
+use Rattle.machine.proofs.Expressions.{onward, inside, all-args}
 
 module _ {g : Stage} where
   -- ---- definitions
@@ -39,7 +40,7 @@ module _ {g : Stage} where
       let c : suc (m .counts .bindings) ≤ g.limits .bindings = leb→le _ _ (room-one _ _ (g.limits .bindings) (r .bindings) .0 e) in
       goes (env-more q _ v n (omega (arith, r .roomy .bindings-fit, r .bindings-kept .long)) (omega (arith, r .roomy .few-bindings)) h (omega arith))
       (r-bind r 1 _ (old-more _ _ _) (kept-binding _ _ _ (omega arith)) (omega arith))
-      (record { more = omega arith; old = old-more _ _ _; waits = λ k h. refl; fell = le-refl _ })
+      (record { more = omega arith; old = old-more _ _ _; waits = λ k s h. refl; fell = le-refl _ })
 
   var-sim : (l : Level) (i : ℕ) (y : TypeTree) {ρ : Env} {env sp : ℕ} {s : State} {m : Tables} → Named g ρ env m → R g s m →
       Sim g (IsEnv g) sp m (def-rule g.limits l (var (place g.script i) (ident g.script (child g.script i)) y) ρ s)
@@ -47,96 +48,98 @@ module _ {g : Stage} where
   unfolding defineCell
   var-sim l i y n r =
       rw (r .cells) (sim-within _ _ _ _ (λ h. h, λ h. h) r λ e.
-      sim-lift (record { more = le-refl _; old = λ k h. refl; waits = λ k h. refl; fell = le-refl _ })
+      sim-lift (record { more = le-refl _; old = λ k h. refl; waits = λ k s h. refl; fell = le-refl _ })
       (define-sim _ _ (place-small (g.script .tree) (child g.script i)) v-adr n (r-cell r (ltb→lt _ _ e))))
 
-  module _ {d : ℕ} {l : Level} {S : Evaluators} (h : Adeq g d l S) where
+  module _ {l : Level} {S : Evaluators} (h : Adeq g l S) where
     const-sim : (i : ℕ) (y : TypeTree) {e : Expr} {ρ : Env} {env sp : ℕ} {s : State} {m : Tables} →
-        AtE g.script (next g.script (next g.script (child g.script i))) e → Here g (suc d) ρ env sp s m →
+        AtE g.script (next g.script (next g.script (child g.script i))) e → Here g ρ env s m →
         Sim g (IsEnv g) sp m (def-rule g.limits l (const (place g.script i) (ident g.script (child g.script i)) y e) ρ s)
-        (constC (run-of g) S env sp (node g i) m)
+        (constC (run-of g) S env (slot sp) (node g i) m)
     unfolding constC
     const-sim i y a x =
-        sim-bind (h .onE a (lower x)) λ u s₁ t z m₁ v r₁ gr. define-sim _ _ (place-small (g.script .tree) (child g.script i)) (v .it)
+        sim-bind (h .onE a x) λ u s₁ t z m₁ v r₁ gr. define-sim _ _ (place-small (g.script .tree) (child g.script i)) (v .it)
         (onward x r₁ gr .names′) r₁
 
     -- ---- statements
 
-    echo-sim : (i : ℕ) {e : Expr} {ρ : Env} {env sp : ℕ} {s : State} {m : Tables} → AtE g.script (child g.script i) e → Here g (suc d) ρ env sp s m →
-        Sim g (IsDone env) sp m (stat-rule g.limits l (echo (place g.script i) e) ρ s) (echoC (run-of g) S env sp (node g i) m)
+    echo-sim : (i : ℕ) {e : Expr} {ρ : Env} {env sp : ℕ} {s : State} {m : Tables} → AtE g.script (child g.script i) e → Here g ρ env s m →
+        Sim g (IsDone env) sp m (stat-rule g.limits l (echo (place g.script i) e) ρ s) (echoC (run-of g) S env (slot sp) (node g i) m)
     unfolding echoC
     echo-sim i a x =
-        sim-bind (h .onE a (lower x)) λ u s₁ t y m₁ v r₁ gr. sim-need _ (asks-num (v .it)) r₁ λ z e.
+        sim-bind (h .onE a x) λ u s₁ t y m₁ v r₁ gr. sim-need _ (asks-num (v .it)) r₁ λ z e.
         rw (e, r₁ .numbers) (sim-within _ _ _ _ (λ h. h, λ h. h) r₁ λ c.
-        goes refl (r-put-out r₁ _ (ltb→lt _ _ c)) (record { more = le-refl _; old = λ k h. refl; waits = λ k h. refl; fell = le-refl _ }))
+        goes refl (r-put-out r₁ _ (ltb→lt _ _ c)) (record { more = le-refl _; old = λ k h. refl; waits = λ k s h. refl; fell = le-refl _ }))
 
     set-sim : (i : ℕ) {e : Expr} {ρ : Env} {env sp : ℕ} {s : State} {m : Tables} → AtE g.script (next g.script (child g.script i)) e →
-        Here g (suc d) ρ env sp s m →
+        Here g ρ env s m →
         Sim g (IsDone env) sp m (stat-rule g.limits l (Syntax.set (place g.script i) (ident g.script (child g.script i)) e) ρ s)
-        (setC (run-of g) S env sp (node g i) m)
+        (setC (run-of g) S env (slot sp) (node g i) m)
     unfolding setC
     set-sim i a x =
         sim-address _ _ _ (x .names′) (x .st) λ c.
-        sim-bind (h .onE a (lower x)) λ u s₁ t y m₁ v r₁ gr. sim-need _ (asks-stored (s₁ .cells) c _ u (r₁ .cells)) r₁ λ cs q.
-        goes refl (r-store r₁ c t y u cs q (v .it)) (record { more = le-refl _; old = λ k h. refl; waits = λ k h. refl; fell = le-refl _ })
+        sim-bind (h .onE a x) λ u s₁ t y m₁ v r₁ gr. sim-need _ (asks-stored (s₁ .cells) c _ u (r₁ .cells)) r₁ λ cs q.
+        goes refl (r-store r₁ c t y u cs q (v .it)) (record { more = le-refl _; old = λ k h. refl; waits = λ k s h. refl; fell = le-refl _ })
 
-    on-block : {i : ℕ} {b : Block} {ρ : Env} {env sp : ℕ} {s : State} {m : Tables} → AtB g.script i b → Here g d ρ env sp s m →
-        Sim g (λ u t x m₁. Unit {0}) sp m (in-block l b ρ s) (S .block env sp (child g.script i) m)
+    on-block : {i : ℕ} {b : Block} {ρ : Env} {env sp : ℕ} {s : State} {m : Tables} → AtB g.script i b → Here g ρ env s m →
+        Sim g (λ u t x m₁. Unit {0}) sp m (in-block l b ρ s) (S .block env (slot sp) (child g.script i) m)
     on-block (at-block k a) x = h .onC a x
 
-    block-sim : {i : ℕ} {b : Block} {ρ : Env} (env : ℕ) {within sp : ℕ} {s : State} {m : Tables} → AtB g.script i b → Here g d ρ within sp s m →
-        Sim g (IsDone env) sp m (in-block l b ρ s) (blockC (run-of g) S env within sp i m)
+    block-sim : {i : ℕ} {b : Block} {ρ : Env} (env : ℕ) {within sp : ℕ} {s : State} {m : Tables} → AtB g.script i b → Here g ρ within s m →
+        Sim g (IsDone env) sp m (in-block l b ρ s) (blockC (run-of g) S env within (slot sp) i m)
     unfolding blockC
     block-sim env a x = sim-end (on-block a x) λ _ s₁ t y m₁ _ r₁ gr. goes refl r₁ grow-self
 
     if-stat-sim : (i : ℕ) {e : Expr} {a b : Block} {ρ : Env} {env sp : ℕ} {s : State} {m : Tables} → AtE g.script (child g.script i) e →
-        AtB g.script (next g.script (child g.script i)) a → AtB g.script (next g.script (next g.script (child g.script i))) b → Here g d ρ env sp s m →
-        Sim g (IsDone env) sp m (stat-rule g.limits l (if-stat (place g.script i) e a b) ρ s) (ifC (run-of g) S env sp (node g i) m)
+        AtB g.script (next g.script (child g.script i)) a → AtB g.script (next g.script (next g.script (child g.script i))) b → Here g ρ env s m →
+        Sim g (IsDone env) sp m (stat-rule g.limits l (if-stat (place g.script i) e a b) ρ s) (ifC (run-of g) S env (slot sp) (node g i) m)
     unfolding ifC
     if-stat-sim i {env = env} e a b x =
         sim-bind (h .onE e x) λ u s₁ t y m₁ v r₁ gr. sim-bit _ (v .it) r₁ (block-sim env a (onward x r₁ gr)) (block-sim env b (onward x r₁ gr))
 
     call-stat-sim : (i : ℕ) {es : List ExprP} {ρ : Env} {env sp : ℕ} {s : State} {m : Tables} → AtAs g.script (next g.script (child g.script i)) es →
-        Here g (suc d) ρ env sp s m →
+        Here g ρ env s m →
         Sim g (IsDone env) sp m (stat-rule g.limits l (call (place g.script i) (ident g.script (child g.script i)) es) ρ s)
-        (callC (run-of g) S env sp (node g i) m)
+        (callC (run-of g) S env (slot sp) (node g i) m)
     unfolding callC
-    call-stat-sim i {env = env} a x =
+    call-stat-sim i {env = env} {sp = sp} a x =
         sim-look _ _ _ (x .names′) (x .st) λ u t y v.
-        sim-bind (all-args h a x) λ us s₁ k n m₁ q r₁ gr.
+        sim-call (all-args h sp a x) λ us s₁ k n m₁ q r₁ gr.
         sim-open (open-procedure u us) _ s₁ (λ c s₂. in-block l (c .body) (c .env) s₂) (procedure-sim _ k n (keep v (gr .more) (gr .old)) q r₁)
         λ c s₂ env₁ j m₂ b r₂ gr₂.
-        block-sim env (b .body-at) (record { names′ = b .in-env; room = lower x .room; st = r₂ })
+        making (length us) (b .made) (block-sim env (b .it .body-at) (record { names′ = b .it .in-env; st = r₂ }))
 
+  -- with d levels left below
+  module _ (d : ℕ) {l : Level} {S : Evaluators} (h : Adeq g l S) where
     -- each round takes a unit, so neither count runs out
     rounds-sim : (i n k : ℕ) {e : Expr} {b : Block} {ρ : Env} {env sp : ℕ} {s : State} {m : Tables} → AtE g.script (child g.script i) e →
-        AtB g.script (next g.script (child g.script i)) b → Here g d ρ env sp s m → m .counts .units < n → m .counts .units < k →
+        AtB g.script (next g.script (child g.script i)) b → Here g ρ env s m → m .counts .units < n → m .counts .units < k →
         Sim g (Spent g m (IsDone env)) sp m
         (Rules.enter g.limits (place g.script i) s λ s₁. Rules.rounds g.limits n (l .expr e ρ) (in-block l b ρ) (place g.script i) s₁)
-        (rounds (run-of g) k (suc d) S env sp (node g i) m)
+        (rounds (run-of g) k (suc d) S env (slot sp) (node g i) m)
     rounds-sim i zero k a b x c c′ = absurd (not-suc-le-zero c)
     rounds-sim i (suc n) zero a b x c c′ = absurd (not-suc-le-zero c′)
     rounds-sim i (suc n) (suc k) {env = env} {sp = sp} {m = m} a b x c c′ =
-        rw (rounds-step (run-of g) (suc d) S env sp (node g i) k m)
-        (sim-guard d _ _ (x .st) λ r₀. sim-bind (h .onE a (onward x r₀ (spending m))) λ u s₁ t y m₁ v r₁ gr.
+        rw (rounds-step (run-of g) (suc d) S env (slot sp) (node g i) k m)
+        (sim-guard d _ _ (x .st) λ r₀. sim-bind (h .onE {sp = sp} a (inside x r₀)) λ u s₁ t y m₁ v r₁ gr.
         sim-bit _ (v .it) r₁
-        (sim-bind (on-block b (onward (onward x r₀ (spending m)) r₁ gr)) λ _ s₂ t₂ z m₂ _ r₂ gr₂.
-        relax (rounds-sim i n k a b (onward (onward (onward x r₀ (spending m)) r₁ gr) r₂ gr₂) (omega (arith, v .less, gr₂ .fell))
+        (sim-bind (on-block h {sp = sp} b (onward (inside x r₀) r₁ gr)) λ _ s₂ t₂ z m₂ _ r₂ gr₂.
+        relax (rounds-sim i n k a b (onward (onward (inside x r₀) r₁ gr) r₂ gr₂) (omega (arith, v .less, gr₂ .fell))
         (omega (arith, v .less, gr₂ .fell))))
         (goes refl r₁ grow-self))
 
     -- ---- commands are entered, by kind
 
     cmd-kind : {A : Type 0} {P : A → (t x : ℕ) → Tables → Type 0} (k i env : ℕ) {o : Outcome A} {sp : ℕ} {m : Tables} → kind g.script i ≡ k →
-        Sim g P sp m o (cmdIn (run-of g) k (suc d) S env sp (node g i) m) →
-        Sim g P sp m o (cmdIn (run-of g) (kind g.script i) (suc d) S env sp (node g i) m)
-    cmd-kind {P = P} k i env {o} {sp} {m} e f = subst (λ (j : ℕ). Sim g P sp m o (cmdIn (run-of g) j (suc d) S env sp (node g i) m)) (sym e) f
+        Sim g P sp m o (cmdIn (run-of g) k (suc d) S env (slot sp) (node g i) m) →
+        Sim g P sp m o (cmdIn (run-of g) (kind g.script i) (suc d) S env (slot sp) (node g i) m)
+    cmd-kind {P = P} k i env {o} {sp} {m} e f = subst (λ (j : ℕ). Sim g P sp m o (cmdIn (run-of g) j (suc d) S env (slot sp) (node g i) m)) (sym e) f
 
-    pub def-sim : {i : ℕ} {c : Def} {ρ : Env} {env sp : ℕ} {s : State} {m : Tables} → AtD g.script i c → Here g (suc d) ρ env sp s m →
+    pub def-sim : {i : ℕ} {c : Def} {ρ : Env} {env sp : ℕ} {s : State} {m : Tables} → AtD g.script i c → Here g ρ env s m →
         Sim g (Spent g m (IsEnv g)) sp m (Rules.enter g.limits (place-def c) s λ s₁. def-rule g.limits l c ρ s₁)
-        (cmdIn (run-of g) (kind g.script i) (suc d) S env sp (node g i) m)
+        (cmdIn (run-of g) (kind g.script i) (suc d) S env (slot sp) (node g i) m)
     unfolding cmdIn cmdBy pick
-    def-sim {m = m} (at-const {t = y} k n a e z) x = cmd-kind 2 _ _ (k .kind-is) (sim-guard d _ _ (x .st) λ r. const-sim _ y e (onward x r (spending m)))
+    def-sim {m = m} (at-const {t = y} k n a e z) x = cmd-kind 2 _ _ (k .kind-is) (sim-guard d _ _ (x .st) λ r. const-sim h _ y e (inside x r))
     def-sim {m = m} (at-fun {i = i} k n a ps e z) x =
         cmd-kind 3 _ _ (k .kind-is) (sim-guard d _ _ (x .st) λ r. define-sim _ _ (place-small (g.script .tree) (child g.script i))
         (function-value (x .names′) r _ (next-small (g.script .tree) (next g.script (child g.script i))) ps e) (x .names′) r)
@@ -151,14 +154,14 @@ module _ {g : Stage} where
         cmd-kind 7 _ _ (k .kind-is) (sim-guard d _ _ (x .st) λ r. define-sim _ _ (place-small (g.script .tree) (child g.script i))
         (recursive-procedure-value (x .names′) r _ (child-small (g.script .tree) i) ps b) (x .names′) r)
 
-    pub stat-sim : {i : ℕ} {c : Stat} {ρ : Env} {env sp : ℕ} {s : State} {m : Tables} → AtS g.script i c → Here g (suc d) ρ env sp s m →
+    pub stat-sim : {i : ℕ} {c : Stat} {ρ : Env} {env sp : ℕ} {s : State} {m : Tables} → AtS g.script i c → Here g ρ env s m →
         Sim g (Spent g m (IsDone env)) sp m (Rules.enter g.limits (place-stat c) s λ s₁. stat-rule g.limits l c ρ s₁)
-        (cmdIn (run-of g) (kind g.script i) (suc d) S env sp (node g i) m)
+        (cmdIn (run-of g) (kind g.script i) (suc d) S env (slot sp) (node g i) m)
     unfolding cmdIn cmdBy pick
-    stat-sim {m = m} (at-echo k e z) x = cmd-kind 8 _ _ (k .kind-is) (sim-guard d _ _ (x .st) λ r. echo-sim _ e (onward x r (spending m)))
-    stat-sim {m = m} (at-set k n e z) x = cmd-kind 9 _ _ (k .kind-is) (sim-guard d _ _ (x .st) λ r. set-sim _ e (onward x r (spending m)))
+    stat-sim {m = m} (at-echo k e z) x = cmd-kind 8 _ _ (k .kind-is) (sim-guard d _ _ (x .st) λ r. echo-sim h _ e (inside x r))
+    stat-sim {m = m} (at-set k n e z) x = cmd-kind 9 _ _ (k .kind-is) (sim-guard d _ _ (x .st) λ r. set-sim h _ e (inside x r))
     stat-sim {m = m} (at-if-stat k e y a y′ b z) x =
-        cmd-kind 10 _ _ (k .kind-is) (sim-guard d _ _ (x .st) λ r. if-stat-sim _ e a b (lower (onward x r (spending m))))
+        cmd-kind 10 _ _ (k .kind-is) (sim-guard d _ _ (x .st) λ r. if-stat-sim h _ e a b (inside x r))
     stat-sim {m = m} (at-while k e y b z) x =
-        cmd-kind 11 _ _ (k .kind-is) (rounds-sim _ (suc (g.limits .fuel)) (suc (m .counts .units)) e b (lower x) (omega (arith, x .st .units)) (le-refl _))
-    stat-sim {m = m} (at-call k n as′) x = cmd-kind 12 _ _ (k .kind-is) (sim-guard d _ _ (x .st) λ r. call-stat-sim _ as′ (onward x r (spending m)))
+        cmd-kind 11 _ _ (k .kind-is) (rounds-sim _ (suc (g.limits .fuel)) (suc (m .counts .units)) e b x (omega (arith, x .st .units)) (le-refl _))
+    stat-sim {m = m} (at-call k n as′) x = cmd-kind 12 _ _ (k .kind-is) (sim-guard d _ _ (x .st) λ r. call-stat-sim h _ as′ (inside x r))

@@ -1,11 +1,10 @@
 -- A call is entered: parameters and waiting values one by one, all bindings or none, a recursive name last.
 use mathlib.Core.Path.{_≡_, refl, sym, _∙_, ap, subst}
 use mathlib.Core.Bool.{Bool, true, false}
-use mathlib.Core.Logic.{⊎-elim}
 use mathlib.Core.List.{List, [], _∷_}
 use mathlib.Core.Option.{Option, none, some}
-use Prim.Native.Nat.{ℕ, zero, suc, _+_, _*_, _≤_, _<_, min}
-use native.Mathlib.Nat.{le-refl, not-suc-le-zero}
+use Prim.Native.Nat.{ℕ, zero, suc, _+_, _*_, _≤_, _<_}
+use native.Mathlib.Nat.{le-refl}
 use native.Mathlib.Omega.{arith}
 use lib.Dec.{T, eqb, leb, leb→le, eqb→eq}
 use lib.ListN.{length}
@@ -16,19 +15,18 @@ use Rattle.language.specs.Limits.{Limits}
 use Rattle.language.specs.Rules.{Val, Env, bound, State, Outcome, ok, need, within, make, take-bindings, bind-all, Entered, entering, also, open-function, open-procedure}
 use Rattle.language.specs.Rules as Rules
 use Rattle.nodes.specs.Nodes.{nodeAt}
-use Rattle.nodes.specs.Trees.{Script, kind, place, next, AtE, AtB, AtParam, at-val-param, at-var-param, AtParams, at-no-param, at-more-params}
-use Rattle.nodes.proofs.Links.{below-or-not}
+use Rattle.nodes.specs.Trees.{place, next, AtE, AtB, at-val-param, at-var-param, AtParams, at-no-param, at-more-params}
 use Rattle.machine.specs.declared.Row.{Row}
 use Rattle.machine.specs.declared.Binding.{Binding}
 use Rattle.machine.specs.declared.Ending.{Ending}
 use Rattle.machine.specs.declared.Ending.the-variants.{Value, NoRule}
 use Rattle.machine.specs.declared.Ending.the-variants as E
-use Rattle.machine.specs.Entries.{pick, most-waiting, row, rowAt, binding, putBinding, nodeOf, envOf}
+use Rattle.machine.specs.Entries.{pick, ring-rows, rowAfter, row, rowAt, binding, putBinding, nodeOf, envOf}
 use Rattle.machine.specs.State.{Tables, Ret, is, andThen, bind}
 use Rattle.machine.specs.Leaves.{isParam, bodyAfter, bindAll, enter, enterAgain, openFunction, openProcedure}
 use Rattle.machine.proofs.Entries.{binding-own, binding-length, binding-beyond, place-small}
 use Rattle.machine.proofs.Lists.{room-is}
-use Rattle.machine.proofs.Relation.{Stage, run-of, Kept, Old, v-num, v-fun, v-rec, v-proc, v-proc-rec, v-adr, e-bound, ValR, EnvR, Waits, w-none, w-more, R, Grow, Sim, goes, no-way, Waiting, IsEntered, Zip, z-none, z-more, Fit, fit, unfit, Bound, Named, Wait, IsVal, node, name-in}
+use Rattle.machine.proofs.Relation.{Stage, run-of, slot, Kept, Old, v-num, v-fun, v-rec, v-proc, v-proc-rec, v-adr, e-bound, ValR, EnvR, Waits, w-none, w-more, R, Grow, Sim, goes, no-way, Made, Waiting, IsEntered, Zip, z-none, z-more, Fit, fit, unfit, Bound, Named, Wait, IsVal, node, name-in}
 use Rattle.machine.proofs.Agree.{kept-self, kept-then, keep, waits-keep, env-in, tag-small, sim-within, sim-bind}
 use Rattle.machine.proofs.States.{old-more, r-bind}
 
@@ -55,35 +53,21 @@ var-param : isParam 14 ≡ true
 unfolding isParam pick
 var-param = refl
 
--- as many names as values
-too-many-names : (xs : List ArgP) (us : List Val) (ρ : Env) → length xs < length us → bind-all (param-names xs) us ρ ≡ none
-too-many-names [] [] ρ h = absurd (not-suc-le-zero h)
-too-many-names [] (u ∷ us) ρ h = refl
-too-many-names (x ∷ xs) [] ρ h = absurd (not-suc-le-zero h)
-too-many-names (x ∷ xs) (u ∷ us) ρ h = too-many-names xs us _ (omega arith)
-
-module _ {g : Script} where
-  is-param : {i : ℕ} {a : ArgP} → AtParam g i a → isParam (kind g i) ≡ true
-  is-param (at-val-param k t e) = a-param 13 _ val-param (k .kind-is)
-  is-param (at-var-param k t e) = a-param 14 _ var-param (k .kind-is)
-
-  too-many-nodes : {q i : ℕ} {xs : List ArgP} → AtParams g q xs i → (n : ℕ) → length xs < n → bodyAfter g.tree n q ≡ NoRule
-  unfolding bodyAfter pick
-  too-many-nodes a zero h = absurd (not-suc-le-zero h)
-  too-many-nodes (at-no-param b c) (suc n) h = rw (not-param _ b c, pick)
-  too-many-nodes (at-more-params a b) (suc n) h = rw (is-param a, pick) (too-many-nodes b n (omega arith))
-
 -- the first of some parameters is bound
 bind-first : (tree : List ℕ) (n q sp : ℕ) (w : List ℕ) (k env : ℕ) (b : List ℕ) (t x : ℕ) → rowAt w sp ≡ row t x →
     bindAll tree (suc n) q sp w k env b ≡
-    bindAll tree n (nodeAt tree q .next) (suc sp) w (suc k) (suc k) (putBinding b k (binding (nodeAt tree q .place) t x env))
+    bindAll tree n (nodeAt tree q .next) (rowAfter sp) w (suc k) (suc k) (putBinding b k (binding (nodeAt tree q .place) t x env))
 unfolding bindAll
 bind-first tree n q sp w k env b t x e =
-    ap (λ (r : Row). bindAll tree n (nodeAt tree q .next) (suc sp) w (suc k) (suc k) (putBinding b k (binding (nodeAt tree q .place) (r .tag) (r .word) env))) e
+    ap (λ (r : Row). bindAll tree n (nodeAt tree q .next) (rowAfter sp) w (suc k) (suc k) (putBinding b k (binding (nodeAt tree q .place) (r .tag) (r .word) env))) e
 
--- fewer values than can wait: the count is theirs
-same-count : (k n : ℕ) → k < most-waiting → n ≡ min (0 + k) most-waiting → n ≡ k
-same-count k n h e = omega arith
+-- the row behind a value's
+pub after-slot : (k : ℕ) → rowAfter (slot k) ≡ slot (suc k)
+unfolding rowAfter
+after-slot k = omega arith
+
+same-count : (k n : ℕ) → n ≡ 0 + k → n ≡ k
+same-count k n e = omega arith
 
 pub kept-binding : {r : ℕ} (b : List ℕ) (c : ℕ) (x : Binding) → 2 * suc c ≤ r → Kept r b (putBinding b c x)
 kept-binding {r} b c x h = record { long = binding-length b c x; beyond = binding-beyond b c x r h }
@@ -114,7 +98,7 @@ module _ {g : Stage} where
       e-bound k (binding-own _ _ _ (omega arith) l s (tag-small u) (omega arith)) (keep u (le-refl _) (old-more _ _ _)) (keep e (le-refl _) (old-more _ _ _))
 
   bind-each : {q i : ℕ} {us : List Val} {ρ ρ′ : Env} → Zip g q us ρ ρ′ i → {b w : List ℕ} {c sp env : ℕ} (n r : ℕ) → Waits g b c w sp us → EnvR g b c ρ env →
-      length us + c ≡ n → 2 * n ≤ length b → n ≤ 4096 → 2 * n ≤ r → Bound g b c n r ρ′ (bindAll (g.script .tree) (length us) q sp w c env b)
+      length us + c ≡ n → 2 * n ≤ length b → n ≤ 4096 → 2 * n ≤ r → Bound g b c n r ρ′ (bindAll (g.script .tree) (length us) q (slot sp) w c env b)
   unfolding bindAll
   bind-each z-none n r w-none e h l m k = record { env′ = keep e (omega arith) (λ j s. refl); old = λ j s. refl; kept = kept-self }
   bind-each (z-more {q = q} {us = us} z) {b} {w} {c} {sp} {env} n r (w-more {t = t} {x = x} e₀ u ws) e h l m k =
@@ -122,7 +106,7 @@ module _ {g : Stage} where
       let more = bind-each z n r (waits-keep ws (omega arith) (old-more b c y))
       (env-more (place g.script q) (suc c) u e (omega arith) (omega arith) (place-small (g.script .tree) q) (le-refl _))
       (omega arith) (omega (arith, binding-length b c y)) m k in
-      rw (bind-first (g.script .tree) (length us) q sp w c env b t x e₀)
+      rw (bind-first (g.script .tree) (length us) q (slot sp) w c env b t x e₀, after-slot sp)
       (record {
         env′ = more .env′;
         old = λ j s. more .old j (omega arith) ∙ old-more b c y j s;
@@ -131,10 +115,10 @@ module _ {g : Stage} where
 
   module _ {B : Type 0} {At : ℕ → B → Type 0} where
     enter-fit : {q i n′ : ℕ} {us : List Val} {ρ : Env} {o : Option Env} {e : Ending} (p : ℕ) (body : B) {env sp : ℕ} {s : State} {m : Tables} →
-        Fit g q us ρ i n′ o e → At i body → Wait g sp us m → Named g ρ env m → R g s m →
-        Sim g (IsEntered g At) sp m (need (entering body n′ o) p s λ c. make g.limits (c .count) p s λ s₁. ok c s₁)
+        Fit g q us ρ i n′ o e → At i body → (length us + m .counts .bindings ≤ ring-rows → Wait g sp us m) → Named g ρ env m → R g s m →
+        Sim g (Made g (length us) m (IsEntered g At)) sp m (need (entering body n′ o) p s λ c. make g.limits (c .count) p s λ s₁. ok c s₁)
         (andThen (is e m) λ _ i m. pick (leb (length us + m .counts .bindings) (g.limits .bindings)) (λ _.
-        let o = bindAll (g.script .tree) (length us) q sp (m .waiting) (m .counts .bindings) env (m .bindings) in
+        let o = bindAll (g.script .tree) (length us) q (slot sp) (m .waiting) (m .counts .bindings) env (m .bindings) in
         is (Value (o .env) i) (bind (length us) (o .bindings) m))
         λ _. is (E.Stop 23 p) m)
     unfolding need andThen
@@ -142,18 +126,18 @@ module _ {g : Stage} where
     enter-fit {us = us} p body {sp = sp} {m = m} (fit z e′) a w e r =
         rw e′ (sim-within _ _ _ _ (room-is (length us) _ _ (g.limits .bindings) (r .bindings)) r λ h.
         let l : length us + m .counts .bindings ≤ g.limits .bindings = leb→le _ _ (room-is (length us) _ _ (g.limits .bindings) (r .bindings) .0 h) in
-        let x = bind-each z (length us + m .counts .bindings) (2 * g.limits .bindings) w e refl
+        let x = bind-each z (length us + m .counts .bindings) (2 * g.limits .bindings) (w (omega (arith, r .roomy .few-bindings))) e refl
         (omega (arith, r .roomy .bindings-fit, r .bindings-kept .long)) (omega (arith, r .roomy .few-bindings)) (omega arith) in
-        goes (record { in-env = x .env′; body-at = a }) (r-bind r (length us) _ (x .old) (x .kept) l)
-        (record { more = omega arith; old = x .old; waits = λ k h. refl; fell = le-refl _ }))
+        goes (record { it = record { in-env = x .env′; body-at = a }; made = omega arith }) (r-bind r (length us) _ (x .old) (x .kept) l)
+        (record { more = omega arith; old = x .old; waits = λ k s h. refl; fell = le-refl _ }))
 
     again-fit : {q i n′ : ℕ} {us : List Val} {u : Val} {ρ : Env} {o : Option Env} {e : Ending} (p t x : ℕ) (body : B) {sp : ℕ} {s : State} {m : Tables} →
-        Fit g q us ρ i n′ o e → At i body → Wait g sp us m → Named g ρ (envOf x) m →
+        Fit g q us ρ i n′ o e → At i body → (length us + m .counts .bindings ≤ ring-rows → Wait g sp us m) → Named g ρ (envOf x) m →
         IsVal g u t x m → R g s m →
-        Sim g (IsEntered g At) sp m
+        Sim g (Made g (length us) m (IsEntered g At)) sp m
         (need (entering body (suc n′) (also (name-in g (place g.script (nodeOf x))) u o)) p s λ c. make g.limits (c .count) p s λ s₁. ok c s₁)
         (andThen (is e m) λ _ i m. pick (leb (suc (length us) + m .counts .bindings) (g.limits .bindings)) (λ _.
-        let o = bindAll (g.script .tree) (length us) q sp (m .waiting) (m .counts .bindings) (envOf x) (m .bindings) in
+        let o = bindAll (g.script .tree) (length us) q (slot sp) (m .waiting) (m .counts .bindings) (envOf x) (m .bindings) in
         is (Value (suc (length us + m .counts .bindings)) i)
         (bind (suc (length us)) (putBinding (o .bindings) (length us + m .counts .bindings) (binding (node g (nodeOf x) .place) t x (o .env))) m))
         λ _. is (E.Stop 23 p) m)
@@ -163,57 +147,50 @@ module _ {g : Stage} where
         rw e′ (sim-within _ _ _ _ (room-is (suc (length us)) _ _ (g.limits .bindings) (r .bindings)) r λ h.
         let l : suc (length us) + m .counts .bindings ≤ g.limits .bindings =
         leb→le _ _ (room-is (suc (length us)) _ _ (g.limits .bindings) (r .bindings) .0 h) in
-        let y = bind-each z (length us + m .counts .bindings) (2 * g.limits .bindings) w e refl
+        let y = bind-each z (length us + m .counts .bindings) (2 * g.limits .bindings) (w (omega (arith, r .roomy .few-bindings))) e refl
         (omega (arith, r .roomy .bindings-fit, r .bindings-kept .long)) (omega (arith, r .roomy .few-bindings)) (omega arith) in
         let o : Old (m .bindings) (m .counts .bindings) (putBinding _ (length us + m .counts .bindings) _) =
         λ j h. old-more _ _ _ j (omega arith) ∙ y .old j h in
         goes
         (record {
-          in-env = env-more _ _ (keep v (omega arith) (y .old)) (y .env′) (omega (arith, r .roomy .bindings-fit, r .bindings-kept .long, y .kept .long))
-              (omega (arith, r .roomy .few-bindings)) (place-small (g.script .tree) (nodeOf x)) (omega arith);
-          body-at = a;
+          it = record {
+            in-env = env-more _ _ (keep v (omega arith) (y .old)) (y .env′) (omega (arith, r .roomy .bindings-fit, r .bindings-kept .long, y .kept .long))
+                (omega (arith, r .roomy .few-bindings)) (place-small (g.script .tree) (nodeOf x)) (omega arith);
+            body-at = a;
+          };
+          made = omega arith;
         })
         (r-bind r (suc (length us)) _ o (kept-then (y .kept) (kept-binding _ _ _ (omega arith))) l)
-        (record { more = omega arith; old = o; waits = λ k h. refl; fell = le-refl _ }))
+        (record { more = omega arith; old = o; waits = λ k s h. refl; fell = le-refl _ }))
 
     -- values that wait, n of them by the machine's count, are bound to parameters
-    enter-sim : (p t n : ℕ) (body : B) {q i : ℕ} {xs : List ArgP} {us : List Val} {ρ : Env} {env sp : ℕ} {s : State} {m : Tables} →
+    enter-sim : (p t n : ℕ) (body : B) {q i : ℕ} {xs : List ArgP} {us : List Val} {ρ : Env} {env sp : ℕ} {s : State} {m₀ m : Tables} →
         AtParams g.script q xs i → At i body →
-        Waiting g sp 0 us t n m → Named g ρ env m → R g s m →
-        Sim g (IsEntered g At) sp m
+        Waiting g m₀ sp 0 us t n m → Named g ρ env m → R g s m →
+        Sim g (Made g (length us) m (IsEntered g At)) sp m
         (need (entering body (length (param-names xs)) (bind-all (param-names xs) us ρ)) p s λ c. make g.limits (c .count) p s λ s₁. ok c s₁)
-        (enter (run-of g) p n sp q env m)
+        (enter (run-of g) p n (slot sp) q env m)
     unfolding enter need andThen
     enter-sim p t n body {xs = xs} {us = us} {ρ = ρ} a at w e r =
-        ⊎-elim (λ few. rw (same-count (length us) n few (w .count)) (enter-fit p body (fit-is a us ρ) at (w .all (omega arith)) e r))
-        (λ many. rw (
-          too-many-names xs us ρ (omega (arith, r .roomy .narrow .few a)),
-          too-many-nodes a n (omega (arith, r .roomy .narrow .few a, w .count)),
-        ) (no-way r))
-        (below-or-not (length us) most-waiting)
+        rw (same-count (length us) n (w .count)) (enter-fit p body (fit-is a us ρ) at (w .all) e r)
 
-    again-sim : (p t n k x : ℕ) (body : B) {q i : ℕ} {xs : List ArgP} {us : List Val} {u : Val} {ρ : Env} {sp : ℕ} {s : State} {m : Tables} →
+    again-sim : (p t n k x : ℕ) (body : B) {q i : ℕ} {xs : List ArgP} {us : List Val} {u : Val} {ρ : Env} {sp : ℕ} {s : State} {m₀ m : Tables} →
         AtParams g.script q xs i → At i body →
-        Waiting g sp 0 us t n m → Named g ρ (envOf x) m → IsVal g u k x m → R g s m →
-        Sim g (IsEntered g At) sp m
+        Waiting g m₀ sp 0 us t n m → Named g ρ (envOf x) m → IsVal g u k x m → R g s m →
+        Sim g (Made g (length us) m (IsEntered g At)) sp m
         (need (entering body (suc (length (param-names xs))) (also (name-in g (place g.script (nodeOf x))) u (bind-all (param-names xs) us ρ))) p s λ c.
         make g.limits (c .count) p s λ s₁. ok c s₁)
-        (enterAgain (run-of g) p n sp q k x m)
+        (enterAgain (run-of g) p n (slot sp) q k x m)
     unfolding enterAgain need andThen
     again-sim p t n k x body {xs = xs} {us = us} {ρ = ρ} a at w e v r =
-        ⊎-elim (λ few. rw (same-count (length us) n few (w .count)) (again-fit p k x body (fit-is a us ρ) at (w .all (omega arith)) e v r))
-        (λ many. rw (
-          too-many-names xs us ρ (omega (arith, r .roomy .narrow .few a)),
-          too-many-nodes a n (omega (arith, r .roomy .narrow .few a, w .count)),
-        ) (no-way r))
-        (below-or-not (length us) most-waiting)
+        rw (same-count (length us) n (w .count)) (again-fit p k x body (fit-is a us ρ) at (w .all) e v r)
 
   -- ---- closures are opened
 
-  pub function-sim : (p k n : ℕ) {t x : ℕ} {u : Val} {us : List Val} {sp : ℕ} {s : State} {m : Tables} → IsVal g u t x m →
-      Waiting g sp 0 us k n m → R g s m →
-      Sim g (IsEntered g (AtE g.script)) sp m (need (open-function u us) p s λ c. make g.limits (c .count) p s λ s₁. ok c s₁)
-      (openFunction (run-of g) p n sp t x m)
+  pub function-sim : (p k n : ℕ) {t x : ℕ} {u : Val} {us : List Val} {sp : ℕ} {s : State} {m₀ m : Tables} → IsVal g u t x m →
+      Waiting g m₀ sp 0 us k n m → R g s m →
+      Sim g (Made g (length us) m (IsEntered g (AtE g.script))) sp m (need (open-function u us) p s λ c. make g.limits (c .count) p s λ s₁. ok c s₁)
+      (openFunction (run-of g) p n (slot sp) t x m)
   unfolding openFunction pick need
   function-sim p k n (v-num x) w r = no-way r
   function-sim p k n (v-fun a b e) w r = enter-sim p k n _ a b w e r
@@ -222,10 +199,10 @@ module _ {g : Stage} where
   function-sim p k n (v-proc-rec a b e) w r = no-way r
   function-sim p k n v-adr w r = no-way r
 
-  pub procedure-sim : (p k n : ℕ) {t x : ℕ} {u : Val} {us : List Val} {sp : ℕ} {s : State} {m : Tables} → IsVal g u t x m →
-      Waiting g sp 0 us k n m → R g s m →
-      Sim g (IsEntered g (AtB g.script)) sp m (need (open-procedure u us) p s λ c. make g.limits (c .count) p s λ s₁. ok c s₁)
-      (openProcedure (run-of g) p n sp t x m)
+  pub procedure-sim : (p k n : ℕ) {t x : ℕ} {u : Val} {us : List Val} {sp : ℕ} {s : State} {m₀ m : Tables} → IsVal g u t x m →
+      Waiting g m₀ sp 0 us k n m → R g s m →
+      Sim g (Made g (length us) m (IsEntered g (AtB g.script))) sp m (need (open-procedure u us) p s λ c. make g.limits (c .count) p s λ s₁. ok c s₁)
+      (openProcedure (run-of g) p n (slot sp) t x m)
   unfolding openProcedure pick need
   procedure-sim p k n (v-num x) w r = no-way r
   procedure-sim p k n (v-fun a b e) w r = no-way r

@@ -19,9 +19,9 @@ use Rattle.language.proofs.reading.Descent.{descent}
 use Rattle.language.proofs.reading.Reader.{past, deep, read}
 use Rattle.nodes.specs.Nodes.{nodeAt}
 use Rattle.nodes.specs.Written.{numberAt}
-use Rattle.machine.specs.Entries.{pick, rowAt, putRow, bindingAt, putBinding, closureWord, nodeOf, envOf}
+use Rattle.machine.specs.Entries.{pick, rowAfter, rowAt, putRow, bindingAt, putBinding, closureWord, nodeOf, envOf}
 use Rattle.machine.specs.State.{andThen, guard}
-use Rattle.machine.specs.Leaves.{meaningAt, sameName, walk, boundTo, addressOf, readThrough, nameBy, nameValue, numeralAt, computedBy, negated, combined, operate, isParam, bodyAfter, bindAll, enter, enterAgain, openFunction, openProcedure, define, defineCell}
+use Rattle.machine.specs.Leaves.{meaningAt, sameName, walk, boundTo, addressOf, readThrough, nameBy, nameValue, numeralAt, computedBy, negated, combined, isParam, bodyAfter, bindAll, enter, enterAgain, openFunction, openProcedure, define, defineCell}
 use Rattle.machine.specs.Machine.{onBit, args, allArgs, ifE, andE, orE, operatorE, callE, operatorAt, applyE, exprBy, constC, echoC, setC, blockC, ifC, callC, round, rounds, cmdBy, cmdIn, cmds, step, bottom, evaluators, blockAt}
 use Rattle.machine.specs.Shown.{fresh, program, shown}
 
@@ -51,5 +51,5 @@ scripts =
     []
 
 scripts-shown : AllShown scripts
-unfolding read wordsFrom parse add-leaf add-fork link set-sib retype descent past deep table enc size first shapeType shapeTypes shapeArg shapeArgs shapeArgP shapeArgsP shapeExpr shapeExprs shapeExprP shapeExprsP shapeCmds shapeDef shapeStat shapeBlock meaning nodeAt numberAt pick rowAt putRow bindingAt putBinding closureWord nodeOf envOf andThen guard meaningAt sameName walk boundTo addressOf readThrough nameBy nameValue numeralAt computedBy negated combined operate isParam bodyAfter bindAll enter enterAgain openFunction openProcedure define defineCell onBit args allArgs ifE andE orE operatorE callE operatorAt applyE exprBy constC echoC setC blockC ifC callC round rounds cmdBy cmdIn cmds step bottom evaluators blockAt program
+unfolding read wordsFrom parse add-leaf add-fork link set-sib retype descent past deep table enc size first shapeType shapeTypes shapeArg shapeArgs shapeArgP shapeArgsP shapeExpr shapeExprs shapeExprP shapeExprsP shapeCmds shapeDef shapeStat shapeBlock meaning nodeAt numberAt pick rowAfter rowAt putRow bindingAt putBinding closureWord nodeOf envOf andThen guard meaningAt sameName walk boundTo addressOf readThrough nameBy nameValue numeralAt computedBy negated combined isParam bodyAfter bindAll enter enterAgain openFunction openProcedure define defineCell onBit args allArgs ifE andE orE operatorE callE operatorAt applyE exprBy constC echoC setC blockC ifC callC round rounds cmdBy cmdIn cmds step bottom evaluators blockAt program
 scripts-shown = (refl, (refl, (refl, (refl, (refl, (refl, (refl, tt)))))))

@@ -1,12 +1,13 @@
 -- Numbers and operators: what the machine computes from words is what the rules compute from numbers.
 use mathlib.Core.Path.{_≡_, refl, sym, subst}
-use mathlib.Core.Logic.{_≢_}
 use mathlib.Core.Bool.{Bool, true, false, cond}
 use mathlib.Core.List.{List, [], _∷_}
 use mathlib.Core.Option.{Option, none, some}
-use Prim.Native.Nat.{ℕ, zero, suc, _<_}
+use Prim.Native.Nat.{ℕ, zero, suc, _≤_, _<_}
+use native.Mathlib.Nat.{not-suc-le-zero}
 use native.Mathlib.Omega.{arith}
-use lib.Dec.{T, eqb, ltb, leb, leb→le, eqb→eq, eqb·suc-zero, eqb·suc-suc}
+use lib.Dec.{T, eqb, ltb, leb, leb→le, eqb·suc-zero, eqb·suc-suc}
+use lib.ListN.{length}
 use lib.IntN.{ℤ, pos, negsuc, _+ℤ_, _-ℤ_, _*ℤ_}
 use lib.Signed.{ltZ}
 use mir.Syntax.{w64}
@@ -16,18 +17,16 @@ use Rattle.language.specs.Answers.{ErrorStop, RANGE, ZERO}
 use Rattle.language.specs.Names.{Op, not, eq, lt, add, sub, mul, div, operator}
 use Rattle.language.specs.Numbers.{in-range, quotient, Computed, amount, fails, ranged, same-number, bit, as-bit, op1, op2, compute}
 use Rattle.language.specs.Numbers as Numbers
-use Rattle.language.specs.Rules.{Val, inZ, State, Outcome, need, give, as-number, as-numbers, if-number, if-numbers, behind}
+use Rattle.language.specs.Rules.{Val, inZ, State, no-rule, Outcome, halt, need, give, as-number, as-numbers, if-number, if-numbers, behind}
 use Rattle.language.specs.Rules as Rules
 use Rattle.nodes.specs.Names.{meaningNo}
-use Rattle.machine.specs.declared.Row.{Row}
 use Rattle.machine.specs.declared.Ending.{Ending}
 use Rattle.machine.specs.declared.Ending.the-variants.{Value, NoRule}
-use Rattle.machine.specs.Entries.{pick, number-tag, row, rowAt}
+use Rattle.machine.specs.Entries.{pick, number-tag, row}
 use Rattle.machine.specs.State.{Tables, is}
-use Rattle.machine.specs.Leaves.{given, computedBy, negated, combined, operate}
-use Rattle.machine.proofs.Members.{pick-false}
+use Rattle.machine.specs.Leaves.{given, computedBy, negated, combined}
 use Rattle.machine.proofs.Lists.{Asks, asks-yes, asks-no}
-use Rattle.machine.proofs.Relation.{Stage, v-num, v-fun, v-rec, v-proc, v-proc-rec, v-adr, ValR, w-none, w-more, R, Sim, goes, stops, no-way, IsVal, Waiting, Wait}
+use Rattle.machine.proofs.Relation.{Stage, v-num, v-fun, v-rec, v-proc, v-proc-rec, v-adr, ValR, R, Sim, goes, stops, no-way, IsVal}
 use Rattle.machine.proofs.Agree.{grow-self, no-bit, asks-num}
 
 -- ---- numbers that words hold
@@ -92,14 +91,6 @@ module _ {g : Stage} where
 
 -- ---- how many values an operator takes
 
-not-one : (n : ℕ) (r : Row) → n ≢ 1 → negated n r ≡ NoRule
-unfolding negated
-not-one n r h = pick-false _ _ _ (λ t. h (eqb→eq n 1 t))
-
-not-two : (o p n : ℕ) (r s : Row) → n ≢ 2 → combined o p n r s ≡ NoRule
-unfolding combined
-not-two o p n r s h = pick-false _ _ _ (λ t. h (eqb→eq n 2 t))
-
 -- three values and more, and two of `not`
 long-none : (f : Op) (a b c : Option ℤ) (l : Option (List ℤ)) →
     if-numbers (if-number a λ x. behind x (if-number b λ y. behind y (if-number c λ z. behind z l))) (compute f) ≡ none
@@ -130,8 +121,8 @@ module _ {g : Stage} where
   bit-negated (suc (suc n)) p r = rw (no-bit (ltb (suc (suc n)) 9223372036854775808) n _, eqb·suc-zero (suc n), eqb·suc-suc (suc n) 0, eqb·suc-zero n)
       (no-way r)
 
-  one-negated : {b : List ℕ} {c t x : ℕ} {u : Val} (p : ℕ) {sp : ℕ} {s : State} {m : Tables} → ValR g b c u t x → R g s m →
-      Sim g (IsVal g) sp m (need (Rules.operate not (u ∷ [])) p s λ c. give c p s) (is (negated 1 (row t x)) m)
+  one-negated : {t x : ℕ} {u : Val} (p : ℕ) {sp : ℕ} {s : State} {m : Tables} → IsVal g u t x m → R g s m →
+      Sim g (IsVal g) sp m (need (Rules.operate not (u ∷ [])) p s λ c. give c p s) (is (negated 3 (row t x)) m)
   unfolding need negated pick
   one-negated p (v-num x) r = bit-negated x p r
   one-negated p (v-fun q e n) r = no-way r
@@ -140,21 +131,9 @@ module _ {g : Stage} where
   one-negated p (v-proc-rec q e n) r = no-way r
   one-negated p v-adr r = no-way r
 
-  one-value : {u : Val} (p n : ℕ) {sp : ℕ} {s : State} {m : Tables} → n ≡ 1 → Wait g sp (u ∷ []) m → R g s m →
-      Sim g (IsVal g) sp m (need (Rules.operate not (u ∷ [])) p s λ c. give c p s) (is (negated n (rowAt (m .waiting) sp)) m)
-  one-value p n q (w-more e v w-none) r = rw (q, e) (one-negated p v r)
-
-  not-sim : (us : List Val) (p t n : ℕ) {sp : ℕ} {s : State} {m : Tables} → Waiting g sp 0 us t n m → R g s m →
-      Sim g (IsVal g) sp m (need (Rules.operate not us) p s λ c. give c p s) (is (negated n (rowAt (m .waiting) sp)) m)
-  not-sim [] p t n w r = neither-way _ _ p _ refl (not-one n _ (omega (arith, w .count))) r
-  not-sim (u ∷ []) p t n w r = one-value p n (omega (arith, w .count)) (w .all (omega arith)) r
-  not-sim (u ∷ v ∷ []) p t n w r = neither-way _ _ p _ (not-of-two (as-number u) (as-number v)) (not-one n _ (omega (arith, w .count))) r
-  not-sim (u ∷ v ∷ x ∷ us) p t n w r =
-      neither-way _ _ p _ (long-none not (as-number u) (as-number v) (as-number x) (as-numbers us)) (not-one n _ (omega (arith, w .count))) r
-
   -- ---- the operators of two numbers
 
-  module _ (f : Op) (o : ℕ) (one : (z : ℤ) → op1 f z ≡ none) (two : (a b : ℤ) → op2 f a b ≡ some (computedBy o a b)) where
+  module _ (f : Op) (o : ℕ) (two : (a b : ℤ) → op2 f a b ≡ some (computedBy o a b)) (other : eqb o 3 ≡ false) where
     of-numbers : {oa ob : Option ℤ} {ba bb : Bool} (x y : ℤ) (p : ℕ) {sp : ℕ} {s : State} {m : Tables} → Asks (λ z. z ≡ x) oa ba → Asks (λ z. z ≡ y) ob bb →
         R g s m →
         Sim g (IsVal g) sp m (need (if-numbers (if-number oa λ z. behind z (if-number ob λ z. behind z (some []))) (compute f)) p s λ c. give c p s)
@@ -164,27 +143,36 @@ module _ {g : Stage} where
     of-numbers x y p (asks-yes h) asks-no r = no-way r
     of-numbers x y p asks-no k r = no-way r
 
-    two-values : {u v : Val} (p n : ℕ) {sp : ℕ} {s : State} {m : Tables} → n ≡ 2 → Wait g sp (u ∷ v ∷ []) m → R g s m →
-        Sim g (IsVal g) sp m (need (Rules.operate f (u ∷ v ∷ [])) p s λ c. give c p s)
-        (is (combined o p n (rowAt (m .waiting) sp) (rowAt (m .waiting) (suc sp))) m)
+    two-combined : {t x t′ x′ : ℕ} {u v : Val} (p : ℕ) {sp : ℕ} {s : State} {m : Tables} → IsVal g u t x m → IsVal g v t′ x′ m → R g s m →
+        Sim g (IsVal g) sp m (need (Rules.operate f (u ∷ v ∷ [])) p s λ c. give c p s) (is (combined o p (row t x) (row t′ x′)) m)
     unfolding combined pick
-    two-values p n q (w-more {x = x} e a (w-more {x = y} e′ b w-none)) r = rw (q, e, e′) (of-numbers (toZ w64 x) (toZ w64 y) p (asks-num a) (asks-num b) r)
+    two-combined {x = x} {x′ = y} p a b r = rw (other, pick) (of-numbers (toZ w64 x) (toZ w64 y) p (asks-num a) (asks-num b) r)
 
-    two-sim : (us : List Val) (p t n : ℕ) {sp : ℕ} {s : State} {m : Tables} → Waiting g sp 0 us t n m → R g s m →
-        Sim g (IsVal g) sp m (need (Rules.operate f us) p s λ c. give c p s) (is (combined o p n (rowAt (m .waiting) sp) (rowAt (m .waiting) (suc sp))) m)
-    two-sim [] p t n w r = neither-way _ _ p _ refl (not-two o p n _ _ (omega (arith, w .count))) r
-    two-sim (u ∷ []) p t n w r = neither-way _ _ p _ (none-of-one f one (as-number u)) (not-two o p n _ _ (omega (arith, w .count))) r
-    two-sim (u ∷ v ∷ []) p t n w r = two-values p n (omega (arith, w .count)) (w .all (omega arith)) r
-    two-sim (u ∷ v ∷ x ∷ us) p t n w r =
-        neither-way _ _ p _ (long-none f (as-number u) (as-number v) (as-number x) (as-numbers us)) (not-two o p n _ _ (omega (arith, w .count))) r
+  -- an operator of one value, of two, and of more
+  pub unary-sim : (f : Op) {t x : ℕ} {u : Val} (p : ℕ) {sp : ℕ} {s : State} {m : Tables} → IsVal g u t x m → R g s m →
+      Sim g (IsVal g) sp m (need (Rules.operate f (u ∷ [])) p s λ c. give c p s) (is (negated (meaningNo (operator f)) (row t x)) m)
+  unfolding negated pick
+  unary-sim not p v r = one-negated p v r
+  unary-sim eq {u = u} p v r = neither-way _ _ p _ (none-of-one eq (λ z. refl) (as-number u)) refl r
+  unary-sim lt {u = u} p v r = neither-way _ _ p _ (none-of-one lt (λ z. refl) (as-number u)) refl r
+  unary-sim add {u = u} p v r = neither-way _ _ p _ (none-of-one add (λ z. refl) (as-number u)) refl r
+  unary-sim sub {u = u} p v r = neither-way _ _ p _ (none-of-one sub (λ z. refl) (as-number u)) refl r
+  unary-sim mul {u = u} p v r = neither-way _ _ p _ (none-of-one mul (λ z. refl) (as-number u)) refl r
+  unary-sim div {u = u} p v r = neither-way _ _ p _ (none-of-one div (λ z. refl) (as-number u)) refl r
 
-  pub operate-sim : (f : Op) (us : List Val) (p t n : ℕ) {sp : ℕ} {s : State} {m : Tables} → Waiting g sp 0 us t n m → R g s m →
-      Sim g (IsVal g) sp m (need (Rules.operate f us) p s λ c. give c p s) (is (operate (meaningNo (operator f)) p n sp (m .waiting)) m)
-  unfolding operate pick computedBy
-  operate-sim not us p t n w r = not-sim us p t n w r
-  operate-sim eq us p t n w r = two-sim eq 4 (λ z. refl) (λ a b. refl) us p t n w r
-  operate-sim lt us p t n w r = two-sim lt 5 (λ z. refl) (λ a b. refl) us p t n w r
-  operate-sim add us p t n w r = two-sim add 6 (λ z. refl) (λ a b. refl) us p t n w r
-  operate-sim sub us p t n w r = two-sim sub 7 (λ z. refl) (λ a b. refl) us p t n w r
-  operate-sim mul us p t n w r = two-sim mul 8 (λ z. refl) (λ a b. refl) us p t n w r
-  operate-sim div us p t n w r = two-sim div 9 (λ z. refl) (λ a b. refl) us p t n w r
+  pub binary-sim : (f : Op) {t x t′ x′ : ℕ} {u v : Val} (p : ℕ) {sp : ℕ} {s : State} {m : Tables} → IsVal g u t x m → IsVal g v t′ x′ m → R g s m →
+      Sim g (IsVal g) sp m (need (Rules.operate f (u ∷ v ∷ [])) p s λ c. give c p s) (is (combined (meaningNo (operator f)) p (row t x) (row t′ x′)) m)
+  unfolding combined pick computedBy
+  binary-sim not {u = u} {v = v} p a b r = neither-way _ _ p _ (not-of-two (as-number u) (as-number v)) refl r
+  binary-sim eq p a b r = two-combined eq 4 (λ z w. refl) refl p a b r
+  binary-sim lt p a b r = two-combined lt 5 (λ z w. refl) refl p a b r
+  binary-sim add p a b r = two-combined add 6 (λ z w. refl) refl p a b r
+  binary-sim sub p a b r = two-combined sub 7 (λ z w. refl) refl p a b r
+  binary-sim mul p a b r = two-combined mul 8 (λ z w. refl) refl p a b r
+  binary-sim div p a b r = two-combined div 9 (λ z w. refl) refl p a b r
+
+pub more-stuck : (f : Op) (u v : Val) (us : List Val) (p : ℕ) (s : State) → 1 ≤ length us →
+    (need (Rules.operate f (u ∷ v ∷ us)) p s λ c. give c p s) ≡ halt no-rule p s
+unfolding need
+more-stuck f u v [] p s h = absurd (not-suc-le-zero h)
+more-stuck f u v (x ∷ us) p s h = rw (long-none f (as-number u) (as-number v) (as-number x) (as-numbers us))

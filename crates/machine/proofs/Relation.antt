@@ -2,7 +2,7 @@
 use mathlib.Core.Path.{_≡_}
 use mathlib.Core.List.{List, [], _∷_, _++_}
 use mathlib.Core.Option.{Option, none, some}
-use Prim.Native.Nat.{ℕ, suc, _+_, _*_, _≤_, _<_, min}
+use Prim.Native.Nat.{ℕ, suc, _+_, _*_, _%_, _≤_, _<_}
 use lib.ListN.{length, drop}
 use mir.Syntax.{w64}
 use mir.Val.{toZ}
@@ -19,7 +19,7 @@ use Rattle.machine.specs.declared.Row.{Row}
 use Rattle.machine.specs.declared.Ending.{Ending}
 use Rattle.machine.specs.declared.Ending.the-variants.{Value, NoRule}
 use Rattle.machine.specs.declared.Ending.the-variants as E
-use Rattle.machine.specs.Entries.{number-tag, function-tag, recursive-function-tag, procedure-tag, recursive-procedure-tag, address-tag, unset-tag, most-waiting, most-rows, row, rowAt, binding, bindingAt, nodeOf, envOf}
+use Rattle.machine.specs.Entries.{number-tag, function-tag, recursive-function-tag, procedure-tag, recursive-procedure-tag, address-tag, unset-tag, ring-rows, row, rowAt, binding, bindingAt, nodeOf, envOf}
 use Rattle.machine.specs.State.{Run, Tables, Ret, is}
 use Rattle.machine.specs.Machine.{Evaluators, cmdIn}
 use Rattle.machine.specs.Leaves.{Opened}
@@ -41,19 +41,22 @@ node g i = nodeAt (g.script .tree) i
 abbrev pub name-in : Stage → ℕ → Name
 name-in g p = nameAt (g.script .text) p
 
--- no row of parameters is longer than the values that can wait
-pub record Narrow (g : Script) : Type 0 where
-  pub few : {q i : ℕ} {xs : List ArgP} → AtParams g q xs i → length xs < most-waiting
-
--- the lent tables are large enough, and rows of parameters narrow
+-- the lent tables are large enough
 pub record Roomy (g : Stage) : Type 0 where
   pub few-bindings : g.limits .bindings ≤ 4096
   pub few-cells : g.limits .cells ≤ 4096
   pub bindings-fit : 2 * g.limits .bindings ≤ length (g.old .bindings)
   pub cells-fit : 2 * g.limits .cells ≤ length (g.old .cells)
   pub output-fit : g.limits .output ≤ length (g.old .output)
-  pub waiting-fit : 2 * most-rows ≤ length (g.old .waiting)
-  pub narrow : Narrow g.script
+  pub waiting-fit : 2 * ring-rows ≤ length (g.old .waiting)
+
+-- the row of a ring in which the value k waits
+abbrev pub slot : ℕ → ℕ
+slot k = k % ring-rows
+
+-- from m to m₁ no more values waited at once, from sp on, than bindings were made: what waits below sp, and is not so far behind, is kept
+abbrev pub Below : (sp made : ℕ) → (m m₁ : Tables) → Type 0
+Below sp made m m₁ = (k : ℕ) → k < sp → sp + made ≤ k + ring-rows + m .counts .bindings → rowAt (m₁ .waiting) (slot k) ≡ rowAt (m .waiting) (slot k)
 
 -- a table after some writes: what stands from its entry n on is as it was
 pub record Kept (n : ℕ) (old now : List ℕ) : Type 0 where
@@ -105,10 +108,10 @@ module _ (g : Stage) where
     c-unset : CellR b c none (row unset-tag 0)
     c-set : {u : Val} {t x : ℕ} → ValR b c u t x → CellR b c (some u) (row t x)
 
-  -- values that wait from sp on in the table w
+  -- values that wait from sp on in the ring w
   pub data Waits (b : List ℕ) (c : ℕ) (w : List ℕ) : ℕ → List Val → Type 0 where
     w-none : {sp : ℕ} → Waits b c w sp []
-    w-more : {sp t x : ℕ} {u : Val} {us : List Val} → rowAt w sp ≡ row t x → ValR b c u t x → Waits b c w (suc sp) us → Waits b c w sp (u ∷ us)
+    w-more : {sp t x : ℕ} {u : Val} {us : List Val} → rowAt w (slot sp) ≡ row t x → ValR b c u t x → Waits b c w (suc sp) us → Waits b c w sp (u ∷ us)
 
   -- values that wait in the tables m from sp on
   abbrev pub Wait : (sp : ℕ) → List Val → Tables → Type 0
@@ -127,14 +130,14 @@ module _ (g : Stage) where
     pub numbers : length (s .numbers) ≡ m .counts .numbers
     pub numbers-in : m .counts .numbers ≤ g.limits .output
     pub output : m .output ≡ s .numbers ++ drop (length (s .numbers)) (g.old .output)
-    pub waiting-kept : Kept (2 * most-rows) (g.old .waiting) (m .waiting)
+    pub waiting-kept : Kept (2 * ring-rows) (g.old .waiting) (m .waiting)
     pub roomy : Roomy g
 
   -- what goes on keeps the bindings and what waits below sp, and gives no unit back
   pub record Grow (sp : ℕ) (m m₁ : Tables) : Type 0 where
     pub more : m .counts .bindings ≤ m₁ .counts .bindings
     pub old : Old (m .bindings) (m .counts .bindings) (m₁ .bindings)
-    pub waits : (k : ℕ) → k < sp → rowAt (m₁ .waiting) k ≡ rowAt (m .waiting) k
+    pub waits : Below sp (m₁ .counts .bindings) m m₁
     pub fell : m₁ .counts .units ≤ m .counts .units
 
   -- related outcomes, from m on; P relates what they answer
@@ -148,6 +151,11 @@ module _ (g : Stage) where
     pub it : P a t x m₁
     pub less : m₁ .counts .units < m .counts .units
 
+  -- an answer that made n bindings
+  pub record Made {A : Type 0} (n : ℕ) (m : Tables) (P : A → (t x : ℕ) → Tables → Type 0) (a : A) (t x : ℕ) (m₁ : Tables) : Type 0 where
+    pub it : P a t x m₁
+    pub made : n + m .counts .bindings ≤ m₁ .counts .bindings
+
   -- what answers are: a value, an environment, the environment that was, waiting values (from top on, behind n others), a body and its environment
   abbrev pub IsVal : Val → (t x : ℕ) → Tables → Type 0
   IsVal u t x m = ValR (m .bindings) (m .counts .bindings) u t x
@@ -155,9 +163,16 @@ module _ (g : Stage) where
   abbrev pub IsEnv : Env → (t x : ℕ) → Tables → Type 0
   IsEnv ρ t x m = Named ρ x m
 
-  pub record Waiting (top n : ℕ) (us : List Val) (t x : ℕ) (m : Tables) : Type 0 where
-    pub count : x ≡ min (n + length us) most-waiting
-    pub all : n + length us < most-waiting → Wait top us m
+  -- evaluated from m on. The values are in the ring as long as there is room to bind them; bound, they are bindings made
+  pub record Waiting (m : Tables) (top n : ℕ) (us : List Val) (t x : ℕ) (m₁ : Tables) : Type 0 where
+    pub count : x ≡ n + length us
+    pub all : length us + m₁ .counts .bindings ≤ ring-rows → Wait top us m₁
+    pub keeps : Below top (length us + m₁ .counts .bindings) m m₁
+
+  -- some answers, and not none
+  pub record Some {A : Type 0} (P : List A → (t x : ℕ) → Tables → Type 0) (us : List A) (t x : ℕ) (m : Tables) : Type 0 where
+    pub it : P us t x m
+    pub some : 1 ≤ length us
 
   pub record IsEntered {B : Type 0} (At : ℕ → B → Type 0) (c : Entered B) (env i : ℕ) (m : Tables) : Type 0 where
     pub in-env : Named (c .env) env m
@@ -179,20 +194,19 @@ module _ (g : Stage) where
     pub old : Old b c (o .bindings)
     pub kept : Kept r b (o .bindings)
 
-  -- where evaluation stands: names, room for what waits, state
-  pub record Here (d : ℕ) (ρ : Env) (env sp : ℕ) (s : State) (m : Tables) : Type 0 where
+  -- where evaluation stands: names and state
+  pub record Here (ρ : Env) (env : ℕ) (s : State) (m : Tables) : Type 0 where
     pub names′ : Named ρ env m
-    pub room : sp + d * most-waiting ≤ most-rows
     pub st : R s m
 
-  -- the rules and the machine agree with d levels left
-  pub record Adeq (d : ℕ) (l : Level) (S : Evaluators) : Type 0 where
-    pub onE : {i : ℕ} {e : Expr} {ρ : Env} {env sp : ℕ} {s : State} {m : Tables} → AtE g.script i e → Here d ρ env sp s m →
-        Sim (Spent m IsVal) sp m (l .expr e ρ s) (S .expr env sp i m)
-    pub onA : {i : ℕ} {a : ExprP} {ρ : Env} {env sp : ℕ} {s : State} {m : Tables} → AtA g.script i a → Here d ρ env sp s m →
-        Sim (Spent m IsVal) sp m (l .arg a ρ s) (S .expr env sp i m)
-    pub onC : {i : ℕ} {cs : Cmds} {ρ : Env} {env sp : ℕ} {s : State} {m : Tables} → AtCs g.script i cs → Here d ρ env sp s m →
-        Sim (λ u t x m₁. Unit {0}) sp m (cmds l cs ρ s) (S .block env sp i m)
+  -- the rules and the machine agree
+  pub record Adeq (l : Level) (S : Evaluators) : Type 0 where
+    pub onE : {i : ℕ} {e : Expr} {ρ : Env} {env sp : ℕ} {s : State} {m : Tables} → AtE g.script i e → Here ρ env s m →
+        Sim (Spent m IsVal) sp m (l .expr e ρ s) (S .expr env (slot sp) i m)
+    pub onA : {i : ℕ} {a : ExprP} {ρ : Env} {env sp : ℕ} {s : State} {m : Tables} → AtA g.script i a → Here ρ env s m →
+        Sim (Spent m IsVal) sp m (l .arg a ρ s) (S .expr env (slot sp) i m)
+    pub onC : {i : ℕ} {cs : Cmds} {ρ : Env} {env sp : ℕ} {s : State} {m : Tables} → AtCs g.script i cs → Here ρ env s m →
+        Sim (λ u t x m₁. Unit {0}) sp m (cmds l cs ρ s) (S .block env (slot sp) i m)
 
 abbrev pub IsDone : ℕ → Unit {0} → (t x : ℕ) → Tables → Type 0
 IsDone env u t x m = x ≡ env
@@ -200,7 +214,7 @@ IsDone env u t x m = x ≡ env
 module _ (g : Stage) where
   -- commands with d levels left
   pub record AdeqC (d : ℕ) (l : Level) (S : Evaluators) : Type 0 where
-    pub onD : {i : ℕ} {c : Def} {ρ : Env} {env sp : ℕ} {s : State} {m : Tables} → AtD g.script i c → Here g d ρ env sp s m →
-        Sim g (Spent g m (IsEnv g)) sp m (l .def c ρ s) (cmdIn (run-of g) (node g i .kind) d S env sp (node g i) m)
-    pub onS : {i : ℕ} {c : Stat} {ρ : Env} {env sp : ℕ} {s : State} {m : Tables} → AtS g.script i c → Here g d ρ env sp s m →
-        Sim g (Spent g m (IsDone env)) sp m (l .stat c ρ s) (cmdIn (run-of g) (node g i .kind) d S env sp (node g i) m)
+    pub onD : {i : ℕ} {c : Def} {ρ : Env} {env sp : ℕ} {s : State} {m : Tables} → AtD g.script i c → Here g ρ env s m →
+        Sim g (Spent g m (IsEnv g)) sp m (l .def c ρ s) (cmdIn (run-of g) (node g i .kind) d S env (slot sp) (node g i) m)
+    pub onS : {i : ℕ} {c : Stat} {ρ : Env} {env sp : ℕ} {s : State} {m : Tables} → AtS g.script i c → Here g ρ env s m →
+        Sim g (Spent g m (IsDone env)) sp m (l .stat c ρ s) (cmdIn (run-of g) (node g i .kind) d S env (slot sp) (node g i) m)

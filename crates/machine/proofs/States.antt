@@ -11,7 +11,7 @@ use lib.ListN.{length, drop, length-append, set}
 use Rattle.language.specs.Answers.{FUEL, DEPTH, limit}
 use Rattle.language.specs.Rules.{Val, State, stop, Outcome, halt, within, take-unit, take-bindings, with-cells, put-out, enter, store}
 use Rattle.machine.specs.declared.Binding.{Binding}
-use Rattle.machine.specs.Entries.{unset-tag, most-rows, rowAt, putRow, putBinding}
+use Rattle.machine.specs.Entries.{unset-tag, ring-rows, rowAt, putRow, putBinding}
 use Rattle.machine.specs.State.{Tables, Ret, bind, newCell, putOut, push, guard}
 use Rattle.machine.specs.State as M
 use Rattle.machine.proofs.Entries.{row-length, row-beyond, row-own, row-other, binding-other}
@@ -47,7 +47,7 @@ module _ {g : Stage} where
           roomy = r .roomy;
         }
 
-    pub r-push : (k t x : ℕ) → k < most-rows → R g s (push k t x m)
+    pub r-push : (k t x : ℕ) → k < ring-rows → R g s (push k t x m)
     r-push k t x h =
         record {
           units = r .units;
@@ -171,7 +171,7 @@ module _ {g : Stage} where
   -- ---- an entry: a unit and a level
 
   abbrev pub spending : {sp : ℕ} (m : Tables) → Grow g sp m (M.spend m)
-  spending m = record { more = le-refl _; old = λ k h. refl; waits = λ k h. refl; fell = omega arith }
+  spending m = record { more = le-refl _; old = λ k h. refl; waits = λ k s h. refl; fell = omega arith }
 
   module _ {A : Type 0} {P : A → (t x : ℕ) → Tables → Type 0} where
     pub sim-guard : (d p : ℕ) {s : State} {sp : ℕ} {m : Tables} {o : Outcome A} (k : Tables → Ret) → R g s m →

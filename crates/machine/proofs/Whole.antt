@@ -19,15 +19,14 @@ use Rattle.language.specs.Promises.{Told, told, zeroed}
 use Rattle.language.proofs.running.Sound.{sound}
 use Rattle.nodes.specs.Trees.{Script, AtB, at-block, ReadAs}
 use Rattle.nodes.proofs.Program.{root}
-use Rattle.nodes.proofs.Weight.{params-few}
 use Rattle.machine.specs.declared.Ending.{Ending}
 use Rattle.machine.specs.declared.Ending.the-variants.{Value}
 use Rattle.machine.specs.declared.Ending.the-variants as E
-use Rattle.machine.specs.Entries.{pick, most-rows}
+use Rattle.machine.specs.Entries.{pick, ring-rows}
 use Rattle.machine.specs.State.{Tables, Ret}
 use Rattle.machine.specs.Machine.{blockAt}
 use Rattle.machine.specs.Shown.{fresh, program, stopBy, answerOf, shown, toldBy}
-use Rattle.machine.proofs.Relation.{Stage, Narrow, Kept, R, Sim, goes, stops, no-way, e-none, Here}
+use Rattle.machine.proofs.Relation.{Stage, Kept, R, Sim, goes, stops, no-way, e-none, Here}
 use Rattle.machine.proofs.Agree.{kept-self}
 use Rattle.machine.proofs.Adequate.{adequate}
 
@@ -45,7 +44,7 @@ pub record RunsAs (L : Limits) (b : Block) (m : Tables) (r : Ret) : Type 0 where
   pub output-is : r .after .output ≡ state-of (run L b) .numbers ++ drop (length (state-of (run L b) .numbers)) (m .output)
   pub bindings-kept : Kept (2 * L .bindings) (m .bindings) (r .after .bindings)
   pub cells-kept : Kept (2 * L .cells) (m .cells) (r .after .cells)
-  pub waiting-kept : Kept (2 * most-rows) (m .waiting) (r .after .waiting)
+  pub waiting-kept : Kept (2 * ring-rows) (m .waiting) (r .after .waiting)
 
 pub stop-back : (w : Stop) → stopBy (stop-number w) ≡ w
 unfolding pick
@@ -115,11 +114,11 @@ agrees (no-way r) = record { reports = same-report _ _ refl r; known = known-non
 -- ---- the theorem
 
 -- of a block at the root, whatever the tables held before
-pub block-runs : (g : Script) (L : Limits) {b : Block} (bindings cells : List ℕ) (output : List ℤ) (waiting : List ℕ) → AtB g 0 b → Narrow g → Admitted L →
-    2 * L .bindings ≤ length bindings → 2 * L .cells ≤ length cells → L .output ≤ length output → 2 * most-rows ≤ length waiting →
+pub block-runs : (g : Script) (L : Limits) {b : Block} (bindings cells : List ℕ) (output : List ℤ) (waiting : List ℕ) → AtB g 0 b → Admitted L →
+    2 * L .bindings ≤ length bindings → 2 * L .cells ≤ length cells → L .output ≤ length output → 2 * ring-rows ≤ length waiting →
     RunsAs L b (fresh (L .fuel) bindings cells output waiting) (program g.tree g.text L (fresh (L .fuel) bindings cells output waiting))
 unfolding program blockAt
-block-runs g L bindings cells output waiting (at-block k a) w adm hb hc ho hw =
+block-runs g L bindings cells output waiting (at-block k a) adm hb hc ho hw =
     let old : Tables = fresh (L .fuel) bindings cells output waiting in
     let stage : Stage = record { script = g; limits = L; old = old } in
     let begin : R stage start old =
@@ -143,11 +142,10 @@ block-runs g L bindings cells output waiting (at-block k a) w adm hb hc ho hw =
         cells-fit = hc;
         output-fit = ho;
         waiting-fit = hw;
-        narrow = w;
       };
     } in
-    let here : Here stage (L .depth) empty 0 0 start old = record { names′ = e-none; room = omega (arith, adm .depth-le); st = begin } in
-    let x = agrees (adequate {g = stage} (L .depth) .onC a here) in
+    let here : Here stage empty 0 start old = record { names′ = e-none; st = begin } in
+    let x = agrees (adequate {g = stage} (L .depth) .onC {sp = 0} a here) in
     record {
       reports = x .reports;
       tells = λ c. same-told c _ _ (x .state);
@@ -160,9 +158,9 @@ block-runs g L bindings cells output waiting (at-block k a) w adm hb hc ho hw =
 
 -- of every text that reads, on the table of its tree
 pub text-runs : (g : Script) (L : Limits) (b : Block) (bindings cells : List ℕ) (output : List ℤ) (waiting : List ℕ) → ReadAs g b → Admitted L →
-    2 * L .bindings ≤ length bindings → 2 * L .cells ≤ length cells → L .output ≤ length output → 2 * most-rows ≤ length waiting →
+    2 * L .bindings ≤ length bindings → 2 * L .cells ≤ length cells → L .output ≤ length output → 2 * ring-rows ≤ length waiting →
     RunsAs L b (fresh (L .fuel) bindings cells output waiting) (program g.tree g.text L (fresh (L .fuel) bindings cells output waiting))
-text-runs g L b bindings cells output waiting h = block-runs g L bindings cells output waiting (root h) (record { few = λ a. params-few h a })
+text-runs g L b bindings cells output waiting h = block-runs g L bindings cells output waiting (root h)
 
 -- ---- the corollary: a typed program never comes to a state that no rule fits
 

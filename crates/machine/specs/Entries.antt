@@ -1,5 +1,5 @@
 -- The entries of the evaluator's tables: values, cells, waiting values and bindings, two words each, behind one pair of functions each.
-use Prim.Native.Nat.{ℕ, _+_, _*_, _/_, _%_}
+use Prim.Native.Nat.{ℕ, suc, _+_, _*_, _/_, _%_}
 use mathlib.Core.Bool.{Bool, true, false}
 use mathlib.Core.List.{List}
 use lib.Dec.{ltb}
@@ -42,13 +42,17 @@ done-tag = 7
 abbrev pub again-tag : ℕ
 again-tag = 8
 
--- so many arguments of a call wait; a call with this many or more fits no parameters, since a text of 4,096 words has no room for so many
-abbrev pub most-waiting : ℕ
-most-waiting = 1024
-
--- no table has more rows: this many values may wait, of 200 calls within each other
+-- no table has more rows
 abbrev pub most-rows : ℕ
-most-rows = 204800
+most-rows = 4096
+
+-- the rows of waiting values are a ring: no run makes more bindings than this, and each value that waits becomes one, or the run ends at its call
+abbrev pub ring-rows : ℕ
+ring-rows = 4096
+
+-- the row behind the row k of the ring
+unfoldable pub rowAfter : ℕ → ℕ
+rowAfter k = suc k % ring-rows
 
 abbrev pub row : (tag word : ℕ) → Row
 row t x = record { tag = t; word = x }

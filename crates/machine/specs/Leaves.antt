@@ -18,7 +18,7 @@ use Rattle.nodes.specs.Written.{numberAt}
 use Rattle.machine.specs.declared.Row.{Row}
 use Rattle.machine.specs.declared.Ending.{Ending}
 use Rattle.machine.specs.declared.Ending.the-variants.{Value, Stop, NoRule}
-use Rattle.machine.specs.Entries.{pick, number-tag, function-tag, recursive-function-tag, procedure-tag, recursive-procedure-tag, address-tag, unset-tag, done-tag, rowAt, binding, bindingAt, putBinding, nodeOf, envOf}
+use Rattle.machine.specs.Entries.{pick, number-tag, function-tag, recursive-function-tag, procedure-tag, recursive-procedure-tag, address-tag, unset-tag, done-tag, rowAfter, rowAt, binding, bindingAt, putBinding, nodeOf, envOf}
 use Rattle.machine.specs.State.{Run, Tables, Ret, is, andThen, ifValue, bind, newCell}
 
 -- ---- names
@@ -87,27 +87,22 @@ computedBy o a b =
     pick (eqb o 8) (λ _. ranged (a *ℤ b)) λ _.
     cond (same-number b (pos 0)) (fails ZERO) (ranged (quotient a b))
 
--- `not` of n values of which r is the first
-unfoldable pub negated : (n : ℕ) → Row → Ending
-negated n r =
-    pick (eqb n 1) (λ _.
+-- an operator of one value: only `not` is one
+unfoldable pub negated : (operator : ℕ) → (r : Row) → Ending
+negated o r =
+    pick (eqb o 3) (λ _.
     pick (eqb (r .tag) number-tag) (λ _.
     pick (eqb (r .word) 0) (λ _. Value number-tag 1) λ _. pick (eqb (r .word) 1) (λ _. Value number-tag 0) λ _. NoRule)
     λ _. NoRule)
     λ _. NoRule
 
--- any other operator, of n values of which r and s are the first
-unfoldable pub combined : (operator p n : ℕ) → (r s : Row) → Ending
-combined o p n r s =
-    pick (eqb n 2) (λ _.
+-- an operator of two values: any other is one
+unfoldable pub combined : (operator p : ℕ) → (r s : Row) → Ending
+combined o p r s =
+    pick (eqb o 3) (λ _. NoRule) λ _.
     pick (eqb (r .tag) number-tag) (λ _.
     pick (eqb (s .tag) number-tag) (λ _. given (computedBy o (toZ w64 (r .word)) (toZ w64 (s .word))) p) λ _. NoRule)
-    λ _. NoRule)
     λ _. NoRule
-
--- an operator applied to the n values that wait from sp on
-unfoldable pub operate : (operator p n sp : ℕ) (waiting : List ℕ) → Ending
-operate o p n sp w = pick (eqb o 3) (λ _. negated n (rowAt w sp)) λ _. combined o p n (rowAt w sp) (rowAt w (suc sp))
 
 -- ---- calls
 
@@ -129,7 +124,7 @@ module _ (tree : List ℕ) where
   unfoldable pub bindAll : (n q sp : ℕ) (waiting : List ℕ) (k env : ℕ) (bindings : List ℕ) → Opened
   bindAll zero q sp w k env b = record { env = env; bindings = b }
   bindAll (suc n) q sp w k env b =
-      bindAll n (nodeAt tree q .next) (suc sp) w (suc k) (suc k) (putBinding b k (binding (nodeAt tree q .place) (rowAt w sp .tag) (rowAt w sp .word) env))
+      bindAll n (nodeAt tree q .next) (rowAfter sp) w (suc k) (suc k) (putBinding b k (binding (nodeAt tree q .place) (rowAt w sp .tag) (rowAt w sp .word) env))
 
 module _ (g : Run) where
   -- a call at p, by n values that wait from sp on, of what has its first parameter at q and the names of env: the environment and the body's node

@@ -6,9 +6,9 @@ use mir.Val.{toZ}
 use Rattle.nodes.specs.declared.Node.{Node}
 use Rattle.nodes.specs.Nodes.{nodeAt}
 use Rattle.machine.specs.declared.Ending.the-variants.{Value, Stop, NoRule}
-use Rattle.machine.specs.Entries.{pick, number-tag, function-tag, recursive-function-tag, procedure-tag, recursive-procedure-tag, done-tag, again-tag, most-waiting, most-rows, closureWord}
+use Rattle.machine.specs.Entries.{pick, number-tag, function-tag, recursive-function-tag, procedure-tag, recursive-procedure-tag, done-tag, again-tag, rowAfter, row, closureWord}
 use Rattle.machine.specs.State.{Run, Tables, Ret, is, andThen, store, putOut, push, guard}
-use Rattle.machine.specs.Leaves.{meaningAt, boundTo, addressOf, nameValue, numeralAt, operate, openFunction, openProcedure, define, defineCell}
+use Rattle.machine.specs.Leaves.{meaningAt, boundTo, addressOf, nameValue, numeralAt, negated, combined, openFunction, openProcedure, define, defineCell}
 
 -- expressions (and addresses) and blocks with some levels left: under an environment, with values waiting below sp, at a node
 pub record Evaluators : Type 0 where
@@ -20,15 +20,12 @@ unfoldable pub onBit : (tag word : ℕ) → Tables → (one zero : Unit {0} → 
 onBit t x m a b = pick (eqb t number-tag) (λ _. pick (eqb x 0) b λ _. pick (eqb x 1) a λ _. is NoRule m) λ _. is NoRule m
 
 module _ (g : Run) where
-  -- the arguments from the node i on, n of them waiting, the next as the row top: the answer is how many wait. What more there are is evaluated and not kept
+  -- the arguments from the node i on, n of them waiting, the next as the row top: the answer is how many wait
   unfoldable pub args : ℕ → Evaluators → (env top n i : ℕ) → Tables → Ret
   args zero S env top n i m = is NoRule m
   args (suc k) S env top n i m =
       pick (eqb i 0) (λ _. is (Value done-tag n) m) λ _.
-      andThen (S .expr env top i m) λ t x m₁.
-      pick (ltb n most-waiting) (λ _.
-      pick (ltb top most-rows) (λ _. args k S env (suc top) (suc n) (nodeAt g.script.tree i .next) (push top t x m₁)) λ _. is NoRule m₁)
-      λ _. args k S env top n (nodeAt g.script.tree i .next) m₁
+      andThen (S .expr env top i m) λ t x m₁. args k S env (rowAfter top) (suc n) (nodeAt g.script.tree i .next) (push top t x m₁)
 
   -- all arguments from the node i on
   unfoldable pub allArgs : Evaluators → (env sp i : ℕ) → Tables → Ret
@@ -52,10 +49,17 @@ module _ (g : Run) where
       andThen (S .expr env sp (n .child) m) λ t x m₁.
       onBit t x m₁ (λ _. is (Value number-tag 1) m₁) λ _. S .expr env sp (nodeAt g.script.tree (n .child) .next) m₁
 
-  -- an operator o applied
+  -- an operator o applied: its arguments do not wait in a table. What more there are than two is evaluated, and then no rule fits
   unfoldable pub operatorE : (o : ℕ) → Evaluators → (env sp : ℕ) → Node → Tables → Ret
   operatorE o S env sp n m =
-      andThen (allArgs S env sp (nodeAt g.script.tree (n .child) .next) m) λ _ k m₁. is (operate o (n .place) k sp (m₁ .waiting)) m₁
+      let i = nodeAt g.script.tree (n .child) .next in
+      andThen (S .expr env sp i m) λ t x m₁.
+      let j = nodeAt g.script.tree i .next in
+      pick (eqb j 0) (λ _. is (negated o (row t x)) m₁) λ _.
+      andThen (S .expr env sp j m₁) λ u y m₂.
+      let k = nodeAt g.script.tree j .next in
+      pick (eqb k 0) (λ _. is (combined o (n .place) (row t x) (row u y)) m₂) λ _.
+      andThen (allArgs S env sp k m₂) λ _ _ m₃. is NoRule m₃
 
   -- a function applied: head, arguments, bindings, body
   unfoldable pub callE : Evaluators → (env sp : ℕ) → Node → Tables → Ret
