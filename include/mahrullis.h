@@ -38,7 +38,7 @@ typedef char mahrullis_needs_64_bits[sizeof(size_t) == 8 ? 1 : -1];
 #define MAHRULLIS_STACK_ENTRIES 4097
 #define MAHRULLIS_SCOPES_ENTRIES 4096
 #define MAHRULLIS_NOTES_ENTRIES 4096
-#define MAHRULLIS_WAITING_ENTRIES 409600
+#define MAHRULLIS_WAITING_ENTRIES 8192
 #define MAHRULLIS_REPORT_ENTRIES 6
 #define MAHRULLIS_PART_ENTRIES 2
 /* bindings, cells and output: so many entries for each one that the limit admits. */
@@ -137,7 +137,7 @@ uint64_t mahrullis_run(const uint8_t *text, size_t text_length,
  * offset + length is never more than the text's length. Texts of any length; key words count as names. A part of under two entries is answered 3, unchanged. */
 uint64_t mahrullis_name(const uint8_t *text, size_t text_length, size_t at, uint64_t *part, size_t part_length);
 
-/* All tables at their greatest sizes, 3.6 MB: declare it static or allocate it, and do not put it on a stack. Any contents will do, so it needs no
+/* All tables at their greatest sizes, 430 KB: declare it static or allocate it, and do not put it on a stack. Any contents will do, so it needs no
  * initialiser. One for each thread that calls at the same time. */
 struct mahrullis_tables {
     uint64_t tree[MAHRULLIS_TREE_ENTRIES];

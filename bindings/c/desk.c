@@ -158,7 +158,7 @@ static void try_names(void) {
 
 /* Every table has its least length but for one, which has none or one entry too few: tables 0 to 8 in the struct's order, 9 the report. */
 static void try_short_table(int table, int empty) {
-    static const size_t least[10] = { 4096, 4096, 4097, 4096, 4096, 409600, 8192, 8192, 4096, 6 };
+    static const size_t least[10] = { 4096, 4096, 4097, 4096, 4096, 8192, 8192, 8192, 4096, 6 };
     static const uint64_t none[6] = { 1, 2, 3, 4, 5, 6 }, refused[6] = { MAHRULLIS_TABLE, 0, 0, 0, 0, 0 };
     const uint64_t *left = table == 9 ? none : refused;
     const uint8_t *script = (const uint8_t *)"[ECHO 1]";

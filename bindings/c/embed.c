@@ -1,6 +1,6 @@
 #include <stdio.h>
 #include "mahrullis.h"
-static struct mahrullis_tables tables; /* 3.6 MB of working memory, reused by each call */
+static struct mahrullis_tables tables; /* 430 KB of working memory, reused by each call */
 int main(void) {
     static const char script[] = "[CONST fare int 190; ECHO (add fare 65)]";
     struct mahrullis_limits limits = MAHRULLIS_GREATEST_LIMITS;

@@ -15,7 +15,7 @@ enum job { CHECK, RUN, NAME, JOBS };
 #define GUARD 64
 #define SPARE 32
 #define AROUND (2 * GUARD + 2 * SPARE)
-#define AREA_ENTRIES (4096 * 5 + 4097 + 409600 + 8192 * 2 + 6 + 2 + TABLES * AROUND)
+#define AREA_ENTRIES (4096 * 5 + 4097 + 8192 + 8192 * 2 + 6 + 2 + TABLES * AROUND)
 
 struct table {
     const char *name;
@@ -27,7 +27,7 @@ struct table {
 
 static struct table tables[TABLES] = {
     { "tree", 4096, 0, 0, 0, 0, 0 }, { "words", 4096, 0, 0, 0, 0, 0 }, { "stack", 4097, 0, 0, 0, 0, 0 }, { "scopes", 4096, 0, 0, 0, 0, 0 },
-    { "notes", 4096, 0, 0, 0, 0, 0 }, { "waiting", 409600, 0, 0, 0, 0, 0 }, { "bindings", 8192, 0, 0, 0, 0, 0 }, { "cells", 8192, 0, 0, 0, 0, 0 },
+    { "notes", 4096, 0, 0, 0, 0, 0 }, { "waiting", 8192, 0, 0, 0, 0, 0 }, { "bindings", 8192, 0, 0, 0, 0, 0 }, { "cells", 8192, 0, 0, 0, 0, 0 },
     { "output", 4096, 0, 0, 0, 0, 0 }, { "report", 6, 0, 0, 0, 0, 0 }, { "part", 2, 0, 0, 0, 0, 0 },
 };
 

@@ -20,7 +20,7 @@ fn answer_with_short(table: u64) -> Report {
     let mut stack = [0u64; 4097];
     let mut scopes = [0u64; 4096];
     let mut notes = [0u64; 4096];
-    let mut waiting = [0u64; 409600];
+    let mut waiting = [0u64; 8192];
     let mut bindings = [0u64; 8192];
     let mut cells = [0u64; 8192];
     let mut output = [0i64; 4096];
@@ -29,7 +29,7 @@ fn answer_with_short(table: u64) -> Report {
     let stack_end = entries(4097, table == 2);
     let scopes_end = entries(4096, table == 3);
     let notes_end = entries(4096, table == 4);
-    let waiting_end = entries(409600, table == 5);
+    let waiting_end = entries(8192, table == 5);
     let bindings_end = entries(8192, table == 6);
     let cells_end = entries(8192, table == 7);
     let output_end = entries(4096, table == 8);

@@ -15,7 +15,7 @@ use Rattle.machine.specs.declared.Row.{Row}
 use Rattle.machine.specs.declared.Counts.{Counts}
 use Rattle.machine.specs.declared.Ending.{Ending}
 use Rattle.machine.specs.declared.Ending.the-variants.{Value, Stop, NoRule}
-use Rattle.machine.specs.Entries.{pick, rowAt, putRow, binding, putBinding, closureWord, nodeOf, envOf}
+use Rattle.machine.specs.Entries.{pick, rowAfter, rowAt, putRow, binding, putBinding, closureWord, nodeOf, envOf}
 use Rattle.machine.specs.State.{Run, Tables, tables, Ret, is, onValue, andThen, spend}
 use Rattle.machine.specs.Leaves.{isParam, bodyAfter, bindAll, enter, enterAgain, openFunction, openProcedure, define, defineCell}
 use Rattle.machine.proofs.Ending.{the-type}
@@ -90,12 +90,12 @@ module _ (tree : List ℕ) (k q : ℕ) where
       body-found h = rw (none, ← kind-is, ← t-is, h)
 
 module _ (tree w : List ℕ) (left at from next within : ℕ) (b : List ℕ) where
-  pub bind-goes-on : (b₁ : List ℕ) (x : Node) (r : Row) → (left ≡ 0 → ⊥) → x ≡ nodeAt tree at → r ≡ rowAt w from →
-      b₁ ≡ putBinding b next (binding (x .place) (r .tag) (r .word) within) →
-      bindAll tree (left - 1) (x .next) (from + 1) w (next + 1) (next + 1) b₁ ≡ bindAll tree left at from w next within b
+  pub bind-goes-on : (b₁ : List ℕ) (x : Node) (r : Row) (f₁ : ℕ) → (left ≡ 0 → ⊥) → x ≡ nodeAt tree at → r ≡ rowAt w from →
+      b₁ ≡ putBinding b next (binding (x .place) (r .tag) (r .word) within) → f₁ ≡ rowAfter from →
+      bindAll tree (left - 1) (x .next) f₁ w (next + 1) (next + 1) b₁ ≡ bindAll tree left at from w next within b
   unfolding bindAll
-  bind-goes-on b₁ x r some x-is r-is b-is =
-      rw (b-is, x-is, r-is, add-one from, add-one next) (ap (λ (j : ℕ). bindAll tree j at from w next within b) (sym (one-more left some)))
+  bind-goes-on b₁ x r f₁ some x-is r-is b-is f-is =
+      rw (b-is, x-is, r-is, f-is, add-one next) (ap (λ (j : ℕ). bindAll tree j at from w next within b) (sym (one-more left some)))
 
   pub bind-ends : left ≡ 0 → opened within b ≡ bindAll tree left at from w next within b
   unfolding bindAll

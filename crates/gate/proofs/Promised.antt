@@ -21,7 +21,7 @@ use Rattle.language.specs.Promises.{Verdict, typed, verdict-answer, text-bytes,
 use Rattle.language.proofs.reading.Shown.{room}
 use Rattle.nodes.specs.Trees.{Script, ReadAs}
 use Rattle.limits.specs.Cleared as limits
-use Rattle.machine.specs.Entries.{most-rows}
+use Rattle.machine.specs.Entries.{ring-rows}
 use Rattle.machine.specs.State.{Ret}
 use Rattle.machine.specs.Shown.{fresh, program}
 use Rattle.machine.proofs.Relation.{Kept}
@@ -69,7 +69,7 @@ abbrev stores-of : Limits → (bindings cells : List ℕ) → List Lent
 stores-of L bindings cells = record { size = 2 * L .bindings; holds = bindings } ∷ record { size = 2 * L .cells; holds = cells } ∷ []
 
 -- `works` are CHECK's tables; n is the waiting table's fixed size, which is the evaluator's
-module _ (n : ℕ) (size : n ≡ 2 * most-rows) (L : Limits) (text tree : List ℕ) (works : List Lent) (waiting bindings cells : List ℕ) (output : List ℤ) where
+module _ (n : ℕ) (size : n ≡ 2 * ring-rows) (L : Limits) (text tree : List ℕ) (works : List Lent) (waiting bindings cells : List ℕ) (output : List ℤ) where
   abbrev working : List Lent
   working = works ++ (record { size = n; holds = waiting } ∷ [])
 

@@ -79,19 +79,19 @@ module _ (L : Limits) (text tree words stack scopes notes waiting bindings cells
       module _ (fits : large ≡ true) (v : Verdict) {tree′ words′ stack′ scopes′ notes′ : List ℕ}
           (judged : Check text tree (lent words stack scopes notes) (checked v tree′ words′ stack′ scopes′ notes′))
           (a : Answer) (answers : meant a ≡ verdict.meant v) where
-        pub refused-run : {r : Report} {k : ℕ} {w : List ℕ} → k ≡ number-of (meant a) → (k ≡ 0 → ⊥) → w ≡ limits.zeroed 0 409600 waiting → r ≡ refusal a →
+        pub refused-run : {r : Report} {k : ℕ} {w : List ℕ} → k ≡ number-of (meant a) → (k ≡ 0 → ⊥) → w ≡ limits.zeroed 0 8192 waiting → r ≡ refusal a →
             Promise (left r tree′ words′ stack′ scopes′ notes′ w bindings cells output)
         refused-run {r} {k} {w} n z c e =
             let away : ¬ (verdict.meant v ≡ done) = λ d. z (n ∙ ap number-of (answers ∙ d)) in
-            let h = refused-text 409600 refl L text tree (lent words stack scopes notes) waiting bindings cells output short admitted (sym tested ∙ fits) judged away c in
+            let h = refused-text 8192 refl L text tree (lent words stack scopes notes) waiting bindings cells output short admitted (sym tested ∙ fits) judged away c in
             subst (λ r. Promise (left r tree′ words′ stack′ scopes′ notes′ w bindings cells output)) (sym e)
             (subst (λ b. Promise (record { says = record { answer = b; units = 0; bindings = 0; cells = 0; numbers = 0 }; tree = tree′; works = words′ ∷ stack′ ∷ scopes′ ∷ notes′ ∷ w ∷ []; stores = bindings ∷ cells ∷ []; output = output })) (sym answers) h)
 
         pub accepted-run : {r : Report} {k : ℕ} {w b c : List ℕ} {o : List ℤ} → k ≡ number-of (meant a) → k ≡ 0 →
-            came r w b c o ≡ cleared-after 409600 L (program (take 4096 tree′) text L (fresh (L .fuel) bindings cells output waiting)) →
+            came r w b c o ≡ cleared-after 8192 L (program (take 4096 tree′) text L (fresh (L .fuel) bindings cells output waiting)) →
             Promise (left r tree′ words′ stack′ scopes′ notes′ w b c o)
         accepted-run n z e =
-            accepted-text 409600 refl L text tree (lent words stack scopes notes) waiting bindings cells output short admitted (sym tested ∙ fits) judged
+            accepted-text 8192 refl L text tree (lent words stack scopes notes) waiting bindings cells output short admitted (sym tested ∙ fits) judged
             (sym answers ∙ number-done (meant a) (sym n ∙ z)) e
 
 -- a promise within limits is one within the same limits, as given

@@ -14,7 +14,7 @@ limits-of f d b c o = record { fuel = f; depth = d; bindings = b; cells = c; out
 abbrev pub working : (words stack scopes notes waiting : List ℕ) → List Lent
 working words stack scopes notes waiting =
     record { size = 4096; holds = words } ∷ record { size = 4097; holds = stack } ∷ record { size = 4096; holds = scopes } ∷ record { size = 4096; holds = notes } ∷
-    record { size = 409600; holds = waiting } ∷ []
+    record { size = 8192; holds = waiting } ∷ []
 
 -- the tables of bindings and cells: two words for each that its limit admits
 abbrev pub stores : Limits → (bindings cells : List ℕ) → List Lent

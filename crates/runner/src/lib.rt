@@ -26,7 +26,7 @@ pub fn run(text: &[u8], limits: Limits, output: &mut [i64]) -> Report {
     let mut stack = [0u64; 4097];
     let mut scopes = [0u64; 4096];
     let mut notes = [0u64; 4096];
-    let mut waiting = [0u64; 409600];
+    let mut waiting = [0u64; 8192];
     let mut bindings = [0u64; 8192];
     let mut cells = [0u64; 8192];
     gate::run(

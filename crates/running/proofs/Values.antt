@@ -4,23 +4,25 @@ use mathlib.Core.Bool.{Bool, true, false}
 use mathlib.Core.List.{List}
 use Prim.Native.Nat.{ℕ, suc, _+_, _-_, _≤_, _<_}
 use native.Mathlib.Numerals.{add-one}
+use denote.Enum.Declared.{tagOf}
 use lib.Dec.{eqb}
 use borrow.Author.Tests.{eq-eqb, ne-eqb, lt-ltb, le-ltb}
 use Rattle.nodes.specs.declared.Node.{Node}
 use Rattle.nodes.specs.Nodes.{nodeAt}
 use Rattle.machine.specs.declared.Ending.{Ending}
 use Rattle.machine.specs.declared.Ending.the-variants.{Value, NoRule}
-use Rattle.machine.specs.Entries.{pick, putRow}
-use Rattle.machine.specs.State.{Run, Tables, tables, Ret, is, onValue}
-use Rattle.machine.specs.Leaves.{operate}
+use Rattle.machine.specs.Entries.{pick, rowAfter, row, putRow}
+use Rattle.machine.specs.State.{Run, Tables, tables, Ret, is, onValue, andThen}
+use Rattle.machine.specs.Leaves.{negated, combined}
 use Rattle.machine.specs.Machine.{Evaluators, onBit, args, allArgs, ifE, andE, orE, operatorE, callE, operatorAt, applyE, exprBy, below, exprAt, level}
 use Rattle.machine.specs.Machine.{ifAt, operatorIn, callAt, argsAt}
+use Rattle.machine.proofs.Ending.{the-type}
 use Rattle.machine.proofs.Members.{expr-is, args-go}
 use Rattle.entering.specs.Opening.{guarded, opens}
 use Rattle.entering.proofs.Laws.{not-value}
 use Rattle.stores.specs.Choices.{isBit, bitAnswer, branchOf, plainBy, plainValue}
 use Rattle.running.specs.Parts.{partsE, applyV, partsAt, applyAt, innerAt}
-use Rattle.running.proofs.Laws.{NotValue, passes, goes, follow, guard-stops, guard-goes, guard-level, on-one, on-zero, on-branch, not-one, not-zero}
+use Rattle.running.proofs.Laws.{NotValue, passes, goes, any-value, follow, guard-stops, guard-goes, guard-level, on-one, on-zero, on-branch, not-one, not-zero}
 
 -- `and` goes on after a 1, and `or` after a 0
 module _ (g : Run) (S : Evaluators) (env sp : ℕ) (n : Node) (m : Tables) where
@@ -155,17 +157,66 @@ module _ (g : Run) (d env sp : ℕ) (m : Tables) (n : Node) where
       unfolding callE applyV opens pick
       call-goes q q-is = q-is ∙ sym (rw (← r-is, goes r t x found _))
 
+  -- an operator's first argument is evaluated
+  module _ (o first : ℕ) (first-is : first ≡ nodeAt g.script.tree (n .child) .next) (r : Ret) (r-is : r ≡ exprAt g d env sp first m) where
+    pub operator-passes : NotValue (r .ending) → r ≡ operatorIn g o d env sp n m
+    unfolding operatorE
+    operator-passes h = rw (← first-is, ← r-is) (passes r h _)
+
+    module _ (t x : ℕ) (found : r .ending ≡ Value t x) (second : ℕ) (second-is : second ≡ nodeAt g.script.tree first .next) where
+      pub operator-one : second ≡ 0 → (e : Ending) → e ≡ negated o (row t x) → is e (r .after) ≡ operatorIn g o d env sp n m
+      unfolding operatorE pick
+      operator-one h e e-is = sym (rw (← first-is, ← r-is, goes r t x found _, ← second-is, eq-eqb second 0 h, e-is))
+
+      -- and the second
+      module _ (some : second ≡ 0 → ⊥) (q : Ret) (q-is : q ≡ exprAt g d env sp second (r .after)) where
+        pub operator-passes-2 : NotValue (q .ending) → q ≡ operatorIn g o d env sp n m
+        unfolding operatorE pick
+        operator-passes-2 h = rw (← first-is, ← r-is, goes r t x found _, ← second-is, ne-eqb second 0 some, ← q-is) (passes q h _)
+
+        module _ (u y : ℕ) (met : q .ending ≡ Value u y) (third : ℕ) (third-is : third ≡ nodeAt g.script.tree second .next) where
+          pub operator-two : third ≡ 0 → (e : Ending) → e ≡ combined o (n .place) (row t x) (row u y) → is e (q .after) ≡ operatorIn g o d env sp n m
+          unfolding operatorE pick
+          operator-two h e e-is =
+              sym (rw (
+                ← first-is,
+                ← r-is,
+                goes r t x found _,
+                ← second-is,
+                ne-eqb second 0 some,
+                ← q-is,
+                goes q u y met _,
+                ← third-is,
+                eq-eqb third 0 h,
+                e-is,
+              ))
+
+          -- and all others
+          module _ (more : third ≡ 0 → ⊥) (s : Ret) (s-is : s ≡ argsAt g d env sp third (q .after)) where
+            operator-more : operatorIn g o d env sp n m ≡ andThen s λ _ _ m₃. is NoRule m₃
+            unfolding operatorE pick
+            operator-more =
+                rw (
+                  ← first-is,
+                  ← r-is,
+                  goes r t x found _,
+                  ← second-is,
+                  ne-eqb second 0 some,
+                  ← q-is,
+                  goes q u y met _,
+                  ← third-is,
+                  ne-eqb third 0 more,
+                  ← s-is,
+                )
+
+            pub operator-many : tagOf the-type (s .ending) ≡ 0 → is NoRule (s .after) ≡ operatorIn g o d env sp n m
+            operator-many h = sym (operator-more ∙ any-value s h λ m₃. is NoRule m₃)
+
+            pub operator-passes-3 : NotValue (s .ending) → s ≡ operatorIn g o d env sp n m
+            operator-passes-3 h = passes s h _ ∙ sym operator-more
+
   -- the arguments are evaluated
   module _ (first : ℕ) (first-is : first ≡ nodeAt g.script.tree (n .child) .next) (r : Ret) (r-is : r ≡ argsAt g d env sp first m) where
-    pub operator-passes : (o : ℕ) → NotValue (r .ending) → r ≡ operatorIn g o d env sp n m
-    unfolding operatorE
-    operator-passes o h = rw (← first-is, ← r-is) (passes r h _)
-
-    pub operator-goes : (o t k : ℕ) → r .ending ≡ Value t k → (e : Ending) → e ≡ operate o (n .place) k sp (r .after .waiting) →
-        is e (r .after) ≡ operatorIn g o d env sp n m
-    unfolding operatorE
-    operator-goes o t k found e e-is = sym (rw (← first-is, ← r-is, goes r t k found _, e-is))
-
     module _ (f tag word : ℕ) where
       pub apply-passes : NotValue (r .ending) → r ≡ applyAt g f d env sp tag word n m
       unfolding applyV
@@ -201,34 +252,14 @@ module _ (g : Run) (d env : ℕ) (k u top many i : ℕ) (m : Tables) (more : u <
     args-pass h = rw (args-are, ne-eqb i 0 some, ← r-is) (passes r h _)
 
     module _ (t x : ℕ) (found : r .ending ≡ Value t x) where
-      pub args-no-row : many < 1024 → 204800 ≤ top → is NoRule (r .after) ≡ args g k (level g d) env top many i m
-      unfolding args pick
-      args-no-row l h = sym (rw (args-are, ne-eqb i 0 some, ← r-is, goes r t x found _, lt-ltb many 1024 l, le-ltb top 204800 h))
-
       module _ (next : ℕ) (next-is : next ≡ nodeAt g.script.tree i .next) where
-        pub args-keep : many < 1024 → top < 204800 → (w : List ℕ) → w ≡ putRow (r .after .waiting) top t x →
-            args g (k - 1) (level g d) env (top + 1) (many + 1) next
+        pub args-keep : (w : List ℕ) → w ≡ putRow (r .after .waiting) top t x → (row : ℕ) → row ≡ rowAfter top →
+            args g (k - 1) (level g d) env row (many + 1) next
             (tables (r .after .counts) (r .after .bindings) (r .after .cells) (r .after .output) w) ≡
             args g k (level g d) env top many i m
         unfolding args pick
-        args-keep l h w w-is =
-            sym
-            (rw (
-              args-are,
-              ne-eqb i 0 some,
-              ← r-is,
-              goes r t x found _,
-              lt-ltb many 1024 l,
-              lt-ltb top 204800 h,
-              ← next-is,
-              ← w-is,
-              ← add-one top,
-              ← add-one many,
-            ))
-
-        pub args-skip : 1024 ≤ many → args g (k - 1) (level g d) env top many next (r .after) ≡ args g k (level g d) env top many i m
-        unfolding args pick
-        args-skip l = sym (rw (args-are, ne-eqb i 0 some, ← r-is, goes r t x found _, le-ltb many 1024 l, ← next-is))
+        args-keep w w-is row row-is =
+            sym (rw (args-are, ne-eqb i 0 some, ← r-is, goes r t x found _, ← next-is, ← w-is, ← row-is, ← add-one many))
 
 pub args-start : (g : Run) (d env sp i : ℕ) (m : Tables) → args g (suc (m .counts .units)) (level g d) env sp 0 i m ≡ argsAt g d env sp i m
 unfolding allArgs

@@ -3,7 +3,7 @@ use std::fmt;
 use crate::raw::{self, Common, Running};
 use crate::{Code, End, Limits, Refusal, Stop, Tree};
 
-/// The tables of CHECK and RUN at their greatest sizes, some 3.6 MB on the heap, used again by each call. A gate per thread: calls need it for themselves.
+/// The tables of CHECK and RUN at their greatest sizes, some 430 KB on the heap, used again by each call. A gate per thread: calls need it for themselves.
 pub struct Gate {
     tree: Box<[u64]>,
     words: Box<[u64]>,

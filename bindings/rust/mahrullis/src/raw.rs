@@ -19,7 +19,7 @@ pub const SCOPES_ENTRIES: usize = 4_096;
 /// Entries of the table of notes.
 pub const NOTES_ENTRIES: usize = 4_096;
 /// Entries of the table of values that wait for their call.
-pub const WAITING_ENTRIES: usize = 409_600;
+pub const WAITING_ENTRIES: usize = 8_192;
 /// Entries for each binding that the limit admits.
 pub const ENTRIES_A_BINDING: usize = 2;
 /// Entries for each cell that the limit admits.

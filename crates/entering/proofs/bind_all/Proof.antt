@@ -1,4 +1,4 @@
-use Prim.Native.Nat.{_+_}
+use Prim.Native.Nat.{_+_, _≤_}
 use mathlib.Core.Path.{_≡_, refl, _∙_}
 use native.Mathlib.Omega.{arith}
 use lib.ListN.{length}
@@ -10,14 +10,14 @@ use Rattle.entering.proofs.bind_all.Tie as tie
 
 abbrev Inv-loop : tie.InvT-loop
 Inv-loop tree bindings₀ waiting n q sp k env left₀ at₀ from₀ next₀ within₀ bindings left at from next within =
-    (bindAll tree left at from waiting next within bindings ≡ bindAll tree n q sp waiting k env bindings₀) × (left + next ≡ n + k) × (from +
-    left ≡ sp + n) × (length bindings ≡ length bindings₀)
+    (bindAll tree left at from waiting next within bindings ≡ bindAll tree n q sp waiting k env bindings₀) × (left + next ≡ n + k) × (from ≤ 4096) ×
+    (length bindings ≡ length bindings₀)
 
 abbrev μ-loop : tie.MeasureT-loop
 μ-loop tree bindings₀ waiting n q sp k env left₀ at₀ from₀ next₀ within₀ bindings left at from next within = left
 
 loop-holds : tie.Need-loop-holds Inv-loop μ-loop
-loop-holds c = (refl, refl, refl, refl)
+loop-holds c = (refl, refl, omega arith, refl)
 
 node-at-requires : tie.Need-node-at-requires Inv-loop μ-loop
 node-at-requires c κs = search needs
@@ -28,8 +28,8 @@ row-at-requires c κs = search needs
 put-binding-requires : tie.Need-put-binding-requires Inv-loop μ-loop
 put-binding-requires c κs = search needs
 
-add-from : tie.Need-add-from Inv-loop μ-loop
-add-from c = search needs
+row-after-requires : tie.Need-row-after-requires Inv-loop μ-loop
+row-after-requires c κs = search needs
 
 add-next : tie.Need-add-next Inv-loop μ-loop
 add-next c = search needs
@@ -42,12 +42,12 @@ loop-less c = search needs
 
 loop-again : tie.Need-loop-again Inv-loop μ-loop
 loop-again c =
-    let put-binding = c .before .before .put-binding in let c₁ = c .before .before .before .before in let row-at = c₁ .row-at in
+    let row-after = c .row-after in let put-binding = c .before .before .before .put-binding in let c₁ = c .before .before .before .before .before in
+    let row-at = c₁ .row-at in
     let node-at = c₁ .before .node-at in let test = c₁ .before .before .loop-test in let turn = c₁ .before .before .before .loop in (
-      bind-goes-on _ _ _ _ _ _ _ _ _ _ _ (test .taken) (node-at .ensures) (row-at .ensures) (put-binding .ensures) ∙ turn .inv .0,
-      omega
-          arith,
+      bind-goes-on _ _ _ _ _ _ _ _ _ _ _ _ (test .taken) (node-at .ensures) (row-at .ensures) (put-binding .ensures) (row-after .ensures .0) ∙ turn .inv .0,
       omega arith,
+      row-after .ensures .1,
       omega (arith, put-binding .kept, turn .inv),
     )
 
@@ -67,7 +67,7 @@ bind-all-spec =
     node-at-requires
     row-at-requires
     put-binding-requires
-    add-from
+    row-after-requires
     add-next
     sub-left
     loop-less

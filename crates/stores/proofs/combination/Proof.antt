@@ -8,15 +8,15 @@ use Rattle.stores.proofs.combination.Tie as tie
 
 returns : tie.Need-returns
 unfolding combined pick
-returns c = rw (ne-eqb _ 2 (c .if1 .taken))
+returns c = rw (eq-eqb _ 3 (c .if1 .taken))
 
 returns-2 : tie.Need-returns-2
 unfolding combined pick
-returns-2 c = rw (eq-eqb _ 2 (c .before .before .if1 .left), ne-eqb _ 0 (c .if2 .taken))
+returns-2 c = rw (ne-eqb _ 3 (c .before .before .if1 .left), ne-eqb _ 0 (c .if2 .taken))
 
 returns-3 : tie.Need-returns-3
 unfolding combined pick
-returns-3 c = rw (eq-eqb _ 2 (c .before .before .before .before .if1 .left), eq-eqb _ 0 (c .before .before .if2 .left), ne-eqb _ 0 (c .if3 .taken))
+returns-3 c = rw (ne-eqb _ 3 (c .before .before .before .before .if1 .left), eq-eqb _ 0 (c .before .before .if2 .left), ne-eqb _ 0 (c .if3 .taken))
 
 from-word-requires : tie.Need-from-word-requires
 from-word-requires c κs = search needs
@@ -37,7 +37,7 @@ returns-4 c =
     let c₁ = c .before .before .before in let from-word = c₁ .from-word in let if3 = c₁ .before .if3 in let c₂ = c₁ .before .before .before in
     let if2 = c₂ .if2 in let if1 = c₂ .before .before .if1 in
     rw (
-      eq-eqb _ 2 (if1 .left),
+      ne-eqb _ 3 (if1 .left),
       eq-eqb _ 0 (if2 .left),
       eq-eqb _ 0 (if3 .left),
       ← kept (from-word .result) _ (record {
