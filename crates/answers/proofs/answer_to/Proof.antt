@@ -1,3 +1,4 @@
+-- Written by tools/prove from Proof.tmpl.
 use borrow.Author.Needs.{needs}
 use Rattle.answers.proofs.answer_to.Statement.{statement}
 use Rattle.answers.proofs.answer_to.Tie as tie

@@ -1,3 +1,4 @@
+-- Written by tools/prove from Proof.tmpl.
 use Rattle.answers.proofs.Ends.{reported-as}
 use borrow.Author.Needs.{needs}
 use Rattle.answers.proofs.report_of.Statement.{statement}

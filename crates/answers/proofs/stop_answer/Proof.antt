@@ -1,3 +1,4 @@
+-- Written by tools/prove from Proof.tmpl.
 use Rattle.machine.specs.Entries.{pick}
 use Rattle.answers.specs.Ended.{stopped-by}
 use Rattle.answers.proofs.Ends.{stopped-last}

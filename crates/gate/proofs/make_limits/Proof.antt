@@ -1,3 +1,4 @@
+-- Written by tools/prove from Proof.tmpl.
 use mathlib.Core.Path.{ap}
 use Rattle.limits.specs.Made.{fuel-made, depth-made, room-made}
 use Rattle.gate.proofs.Admits.{beyond, within, all-within}

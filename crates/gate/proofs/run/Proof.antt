@@ -1,3 +1,4 @@
+-- Written by tools/prove from Proof.tmpl.
 use Rattle.gate.specs.Lent.{limits-of}
 use Rattle.gate.proofs.Ways.{long-text, beyond-limits, within-given, made-limits, made-admitted, not-made}
 use borrow.Author.Needs.{needs}

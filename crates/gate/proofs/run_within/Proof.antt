@@ -1,3 +1,4 @@
+-- Written by tools/prove from Proof.tmpl.
 use borrow.Author.Tests.{not-true, not-false}
 use Rattle.gate.specs.Steps.{numbers-of}
 use Rattle.gate.proofs.Ways.{small-table, tree-room, accepted-run, refused-run}

@@ -1,3 +1,4 @@
+-- Written by tools/prove from Proof.tmpl.
 use Rattle.gate.proofs.Tables.{enough, too-few}
 use borrow.Author.Needs.{needs}
 use Rattle.gate.proofs.suffices.Statement.{statement}

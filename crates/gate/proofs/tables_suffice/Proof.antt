@@ -1,3 +1,4 @@
+-- Written by tools/prove from Proof.tmpl.
 use lib.ListN.{length}
 use mathlib.Core.Path.{refl, ap}
 use Prim.Native.Nat.{_*_}

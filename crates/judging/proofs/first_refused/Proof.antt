@@ -1,3 +1,4 @@
+-- Written by tools/prove from Proof.tmpl.
 use borrow.Author.Needs.{needs}
 use Rattle.judging.proofs.Laws.{both-passes}
 use Rattle.judging.proofs.first_refused.Statement.{statement}

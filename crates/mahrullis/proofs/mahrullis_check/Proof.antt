@@ -1,3 +1,4 @@
+-- Written by tools/prove from Proof.tmpl.
 use Rattle.mahrullis.specs.Reports.{CheckInto}
 use Rattle.mahrullis.proofs.Ways.{checked-into}
 use borrow.Author.Needs.{needs}

@@ -1,3 +1,4 @@
+-- Written by tools/prove from Proof.tmpl.
 use Rattle.mahrullis.specs.Reports.{NameInto}
 use Rattle.mahrullis.proofs.Ways.{named-into}
 use borrow.Author.Needs.{needs}

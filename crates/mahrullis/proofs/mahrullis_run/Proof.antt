@@ -1,3 +1,4 @@
+-- Written by tools/prove from Proof.tmpl.
 use Rattle.gate.specs.Lent.{limits-of}
 use Rattle.mahrullis.specs.Reports.{RunInto}
 use Rattle.mahrullis.proofs.Ways.{ran-into}

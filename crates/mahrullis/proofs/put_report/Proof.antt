@@ -1,3 +1,4 @@
+-- Written by tools/prove from Proof.tmpl.
 use borrow.Author.Needs.{needs}
 use Rattle.mahrullis.proofs.Tables.{second, third, fourth, fifth, sixth, report-put}
 use Rattle.mahrullis.proofs.put_report.Statement.{statement}

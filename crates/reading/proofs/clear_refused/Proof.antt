@@ -1,3 +1,4 @@
+-- Written by tools/prove from Proof.tmpl.
 use mathlib.Core.Path.{_∙_, ap, sym}
 use Rattle.parsing.specs.declared.Outcome.{Outcome}
 use Rattle.reading.specs.Outcomes.{kept}

@@ -1,3 +1,4 @@
+-- Written by tools/prove from Proof.tmpl.
 use mathlib.Core.Path.{_∙_, sym}
 use Prim.Native.Nat.{_≤_}
 use native.Mathlib.Omega.{arith}

@@ -1,3 +1,4 @@
+-- Written by tools/prove from Proof.tmpl.
 use native.Mathlib.Omega.{arith}
 use lib.Seq.{length-take-le}
 use mathlib.Core.Path.{sym}

@@ -1,3 +1,4 @@
+-- Written by tools/prove from Proof.tmpl.
 use borrow.Author.Tests.{le-ltb, lt-ltb, ne-eqb}
 use Rattle.judge.specs.Scopes.{bindsOf}
 use Rattle.scopes.proofs.binds_of.Statement.{statement}

@@ -1,3 +1,4 @@
+-- Written by tools/prove from Proof.tmpl.
 use Prim.Native.Nat.{_-_, _≤_}
 use mathlib.Core.Path.{_∙_, _≡_, refl, sym}
 use native.Mathlib.Omega.{arith}

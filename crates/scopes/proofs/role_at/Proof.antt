@@ -1,3 +1,4 @@
+-- Written by tools/prove from Proof.tmpl.
 use borrow.Author.Needs.{needs}
 use Rattle.judge.specs.Scopes.{roleAt}
 use Rattle.scopes.proofs.role_at.Statement.{statement}

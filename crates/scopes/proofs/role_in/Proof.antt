@@ -1,3 +1,4 @@
+-- Written by tools/prove from Proof.tmpl.
 use native.Mathlib.Omega.{arith}
 use borrow.Author.Tests.{le-ltb, lt-ltb, ne-eqb}
 use Rattle.judge.specs.Scopes.{roleIn}

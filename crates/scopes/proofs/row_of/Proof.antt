@@ -1,3 +1,4 @@
+-- Written by tools/prove from Proof.tmpl.
 use borrow.Author.Tests.{ne-eqb}
 use Rattle.judge.specs.Scopes.{rowOf}
 use Rattle.scopes.proofs.row_of.Statement.{statement}

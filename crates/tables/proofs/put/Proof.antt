@@ -1,3 +1,4 @@
+-- Written by tools/prove from Proof.tmpl.
 use mathlib.Core.Path.{sym}
 use lib.Seq.{set-out}
 use borrow.Author.Needs.{needs}

@@ -1,3 +1,4 @@
+-- Written by tools/prove from Proof.tmpl.
 use Prim.Native.Nat.{_-_, _<_, ℕ}
 use mathlib.Core.Path.{_≡_}
 use borrow.Author.Needs.{needs}

@@ -1,3 +1,4 @@
+-- Written by tools/prove from Proof.tmpl.
 use borrow.Author.Tests.{ne-eqb}
 use Rattle.judge.specs.Types.{isFun}
 use Rattle.types.proofs.is_function.Statement.{statement}

@@ -1,3 +1,4 @@
+-- Written by tools/prove from Proof.tmpl.
 -- `check`: the two early answers are the promise's own cases; what reading and judging leave gives the others.
 use mathlib.Core.Path.{_∙_, sym}
 use borrow.Author.Needs.{needs}

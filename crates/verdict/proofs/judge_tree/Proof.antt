@@ -1,3 +1,4 @@
+-- Written by tools/prove from Proof.tmpl.
 -- `judge_tree`: with no refused node the tree stays; else its place is read before the tree is cleared.
 use borrow.Author.Needs.{needs}
 use Rattle.verdict.proofs.Clearing.{goes, part-long, stays}

@@ -1,3 +1,4 @@
+-- Written by tools/prove from Proof.tmpl.
 -- `settle`: both tables are zeros when they are lent to the judge, and are cleared again.
 use mathlib.Core.Path.{_∙_}
 use lib.Seq.{length-front}

@@ -1,3 +1,4 @@
+-- Written by tools/prove from Proof.tmpl.
 -- `tables_suffice`: the tests are the promise's, in its order.
 use borrow.Author.Tests.{le-leb, lt-leb}
 use Rattle.verdict.proofs.tables_suffice.Statement.{statement}

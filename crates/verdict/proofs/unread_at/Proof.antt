@@ -1,3 +1,4 @@
+-- Written by tools/prove from Proof.tmpl.
 -- `unread_at`: each number of a refusal of reading has its own answer.
 use borrow.Author.Tests.{ne-eqb}
 use Rattle.verdict.specs.Judging.{unread}

@@ -1,3 +1,4 @@
+-- Written by tools/prove from Proof.tmpl.
 use borrow.Author.Tests.{eq-eqb, ne-eqb}
 use Rattle.judge.specs.Judge.{ruled}
 use Rattle.judging.proofs.notes.as_note.Statement.{statement}

@@ -1,3 +1,4 @@
+-- Written by tools/prove from Proof.tmpl.
 use Prim.Native.Nat.{_≤_}
 use mathlib.Core.Path.{_≡_, refl}
 use native.Mathlib.Omega.{arith}

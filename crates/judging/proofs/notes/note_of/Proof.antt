@@ -1,3 +1,4 @@
+-- Written by tools/prove from Proof.tmpl.
 use borrow.Author.Needs.{needs}
 use Rattle.judge.specs.Judge.{noteOf}
 use Rattle.judging.proofs.notes.note_of.Statement.{statement}

@@ -1,3 +1,4 @@
+-- Written by tools/prove from Proof.tmpl.
 use borrow.Author.Needs.{needs}
 use Rattle.judge.specs.Rules.{callRule}
 use Rattle.judging.proofs.rules.call_rule.Statement.{statement}

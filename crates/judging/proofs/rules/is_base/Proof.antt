@@ -1,3 +1,4 @@
+-- Written by tools/prove from Proof.tmpl.
 use borrow.Author.Tests.{eq-eqb, ne-eqb}
 use Rattle.judge.specs.Rules.{isBase}
 use Rattle.judging.proofs.rules.is_base.Statement.{statement}

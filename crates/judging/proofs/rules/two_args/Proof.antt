@@ -1,3 +1,4 @@
+-- Written by tools/prove from Proof.tmpl.
 use borrow.Author.Needs.{needs}
 use Rattle.judge.specs.Rules.{twoArgs}
 use Rattle.judging.proofs.rules.two_args.Statement.{statement}
