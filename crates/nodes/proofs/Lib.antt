@@ -8,7 +8,6 @@ pub mod Trees
 pub mod Laws
 pub mod Program
 pub mod Rows
-pub mod Weight
 pub mod Numbered
 pub mod Bytes
 pub mod Nine

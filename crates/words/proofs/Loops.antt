@@ -1,4 +1,4 @@
--- The two loops over key words, a turn at a time: a word is packed, and its number is looked up.
+-- A word is packed into one number, a byte at a time.
 use mathlib.Core.Path.{_≡_, refl, sym, ap, _∙_}
 use mathlib.Core.List.{List, [], _∷_}
 use Prim.Native.Nat.{ℕ, _+_, _*_, _≤_, _<_, min}
@@ -6,8 +6,7 @@ use native.Mathlib.Numerals.{add-one}
 use native.Mathlib.Omega.{arith}
 use lib.ListN.{length, drop, getD, drop-of-length-le}
 use lib.Seq.{drop-cons}
-use borrow.Author.Tests.{eq-eqb, ne-eqb}
-use Rattle.words.specs.Marks.{pack, cap, place-in}
+use Rattle.words.specs.Marks.{pack, cap}
 
 kept-step : (n e : ℕ) → min (min n cap * 256 + e) cap ≡ min (n * 256 + e) cap
 kept-step n e = omega arith
@@ -35,13 +34,3 @@ module _ (w : List ℕ) (i v : ℕ) where
   packing-done h p =
       let e : pack v (drop i w) ≡ v = rw (drop-of-length-le w {i = i} h) refl in
       omega (arith, p .same, p .small, e)
-
-module _ (xs : List ℕ) (v k j : ℕ) where
-  pub place-here : j < length xs → v ≡ getD xs j 0 → place-in k v (drop j xs) ≡ k
-  place-here h e = rw (drop-cons xs j 0 h) (simp (eq-eqb v (getD xs j 0) e))
-
-  pub place-on : j < length xs → (v ≡ getD xs j 0 → ⊥) → place-in k v (drop j xs) ≡ place-in (k + 1) v (drop (j + 1) xs)
-  place-on h e = rw (drop-cons xs j 0 h) (simp (ne-eqb v (getD xs j 0) e, add-one))
-
-  pub place-none : length xs ≤ j → place-in k v (drop j xs) ≡ 0
-  place-none h = rw (drop-of-length-le xs {i = j} h) refl

@@ -132,27 +132,6 @@ fn symbol(b: u8) -> u8
     }
 }
 
-// The key words in the order of their numbers, from 10 on, each as one number, base 256.
-const KEY_WORDS: [u64; 17] = [
-    0x434F4E5354, // CONST
-    0x46554E, // FUN
-    0x524543, // REC
-    0x564152, // VAR
-    0x50524F43, // PROC
-    0x4543484F, // ECHO
-    0x534554, // SET
-    0x4946, // IF
-    0x5748494C45, // WHILE
-    0x43414C4C, // CALL
-    0x6966, // if
-    0x616E64, // and
-    0x6F72, // or
-    0x626F6F6C, // bool
-    0x696E74, // int
-    0x766172, // var
-    0x616472, // adr
-];
-
 // A word's number is kept at 2^63, more than any key word's.
 const MOST: u64 = 0x8000000000000000;
 
@@ -183,14 +162,26 @@ fn packed(word: &[u8]) -> u64
 fn key_packed(v: u64) -> u8
     ensures { λ r. ⌜ r ≡ place-in 10 v packed-keys ⌝ }
 {
-    let mut k = 0;
-    while k < 17 {
-        if v == KEY_WORDS[k] {
-            return (k as u8) + 10;
-        }
-        k += 1;
+    match v {
+        0x434F4E5354 => 10, // CONST
+        0x46554E => 11, // FUN
+        0x524543 => 12, // REC
+        0x564152 => 13, // VAR
+        0x50524F43 => 14, // PROC
+        0x4543484F => 15, // ECHO
+        0x534554 => 16, // SET
+        0x4946 => 17, // IF
+        0x5748494C45 => 18, // WHILE
+        0x43414C4C => 19, // CALL
+        0x6966 => 20, // if
+        0x616E64 => 21, // and
+        0x6F72 => 22, // or
+        0x626F6F6C => 23, // bool
+        0x696E74 => 24, // int
+        0x766172 => 25, // var
+        0x616472 => 26, // adr
+        _ => 0,
     }
-    0
 }
 
 // The number of a key word, 0 for a name.

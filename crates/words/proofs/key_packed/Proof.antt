@@ -1,72 +1,100 @@
-use Prim.Native.Nat.{_≤_, _+_, _-_}
-use mathlib.Core.Path.{_≡_, refl, sym, _∙_}
-use native.Mathlib.Omega.{arith}
-use lib.ListN.{drop}
-use Rattle.words.specs.Marks.{place-in, packed-keys}
-use Rattle.words.proofs.Loops.{place-here, place-on, place-none}
+use mathlib.Core.Path.{refl, sym}
+use borrow.Author.Tests.{ne-eqb}
 use Rattle.words.proofs.key_packed.Statement.{statement}
 use Rattle.words.proofs.key_packed.Tie as tie
 
-abbrev Inv-loop : tie.InvT-loop
-Inv-loop v k₀ k = (k ≤ 17) × (place-in (k + 10) v (drop k packed-keys) ≡ place-in 10 v packed-keys)
+returns : tie.Need-returns
+returns c = rw (c .match .keys1) refl
 
-abbrev μ-loop : tie.MeasureT-loop
-μ-loop v k₀ k = 17 - k
+returns-2 : tie.Need-returns-2
+returns-2 c = rw (c .match .keys2) refl
 
-loop-holds : tie.Need-loop-holds Inv-loop μ-loop
-loop-holds c = (omega arith, refl)
+returns-3 : tie.Need-returns-3
+returns-3 c = rw (c .match .keys3) refl
 
-mul-if1 : tie.Need-mul-if1 Inv-loop μ-loop
-mul-if1 c = omega arith
+returns-4 : tie.Need-returns-4
+returns-4 c = rw (c .match .keys4) refl
 
-array-read-if1 : tie.Need-array-read-if1 Inv-loop μ-loop
-array-read-if1 c = omega arith
+returns-5 : tie.Need-returns-5
+returns-5 c = rw (c .match .keys5) refl
 
-cast-result : tie.Need-cast-result Inv-loop μ-loop
-cast-result c = omega arith
+returns-6 : tie.Need-returns-6
+returns-6 c = rw (c .match .keys6) refl
 
-add-result : tie.Need-add-result Inv-loop μ-loop
-add-result c = omega arith
+returns-7 : tie.Need-returns-7
+returns-7 c = rw (c .match .keys7) refl
 
-returns : tie.Need-returns Inv-loop μ-loop
-returns c =
-    let l = c .before .before in
-    sym (place-here packed-keys (l .before .args .v) (l .loop .k + 10) (l .loop .k) (omega (arith, c .before .loop-test .taken)) (c .if1 .taken))
-    ∙ l .loop .inv .1
+returns-8 : tie.Need-returns-8
+returns-8 c = rw (c .match .keys8) refl
 
-add-k : tie.Need-add-k Inv-loop μ-loop
-add-k c = omega arith
+returns-9 : tie.Need-returns-9
+returns-9 c = rw (c .match .keys9) refl
 
-loop-less : tie.Need-loop-less Inv-loop μ-loop
-loop-less c = omega arith
+returns-10 : tie.Need-returns-10
+returns-10 c = rw (c .match .keys10) refl
 
-loop-again : tie.Need-loop-again Inv-loop μ-loop
-loop-again c =
-    let l = c .before .before in
-    let e : l .loop .k + 1 + 10 ≡ l .loop .k + 10 + 1 = omega arith in (
-      omega (arith, c .before .loop-test .taken),
-      rw e (sym (place-on packed-keys (l .before .args .v) (l .loop .k + 10) (l .loop .k) (omega (arith, c .before .loop-test .taken)) (c .if1 .left)))
-          ∙ l .loop .inv .1,
+returns-11 : tie.Need-returns-11
+returns-11 c = rw (c .match .keys11) refl
+
+returns-12 : tie.Need-returns-12
+returns-12 c = rw (c .match .keys12) refl
+
+returns-13 : tie.Need-returns-13
+returns-13 c = rw (c .match .keys13) refl
+
+returns-14 : tie.Need-returns-14
+returns-14 c = rw (c .match .keys14) refl
+
+returns-15 : tie.Need-returns-15
+returns-15 c = rw (c .match .keys15) refl
+
+returns-16 : tie.Need-returns-16
+returns-16 c = rw (c .match .keys16) refl
+
+returns-17 : tie.Need-returns-17
+returns-17 c = rw (c .match .keys17) refl
+
+returns-18 : tie.Need-returns-18
+returns-18 c =
+    simp (
+      ne-eqb _ _ (c .match .rest .0 .0 .0 .0 .0 .0 .0 .0 .0 .0 .0 .0 .0 .0 .0 .0 .1),
+      ne-eqb _ _ (c .match .rest .0 .0 .0 .0 .0 .0 .0 .0 .0 .0 .0 .0 .0 .0 .0 .1),
+      ne-eqb _ _ (c .match .rest .0 .0 .0 .0 .0 .0 .0 .0 .0 .0 .0 .0 .0 .0 .1),
+      ne-eqb _ _ (c .match .rest .0 .0 .0 .0 .0 .0 .0 .0 .0 .0 .0 .0 .0 .1),
+      ne-eqb _ _ (c .match .rest .0 .0 .0 .0 .0 .0 .0 .0 .0 .0 .0 .0 .1),
+      ne-eqb _ _ (c .match .rest .0 .0 .0 .0 .0 .0 .0 .0 .0 .0 .0 .1),
+      ne-eqb _ _ (c .match .rest .0 .0 .0 .0 .0 .0 .0 .0 .0 .0 .1),
+      ne-eqb _ _ (c .match .rest .0 .0 .0 .0 .0 .0 .0 .0 .0 .1),
+      ne-eqb _ _ (c .match .rest .0 .0 .0 .0 .0 .0 .0 .0 .1),
+      ne-eqb _ _ (c .match .rest .0 .0 .0 .0 .0 .0 .0 .1),
+      ne-eqb _ _ (c .match .rest .0 .0 .0 .0 .0 .0 .1),
+      ne-eqb _ _ (c .match .rest .0 .0 .0 .0 .0 .1),
+      ne-eqb _ _ (c .match .rest .0 .0 .0 .0 .1),
+      ne-eqb _ _ (c .match .rest .0 .0 .0 .1),
+      ne-eqb _ _ (c .match .rest .0 .0 .1),
+      ne-eqb _ _ (c .match .rest .0 .1),
+      ne-eqb _ _ (c .match .rest .1),
     )
-
-returns-2 : tie.Need-returns-2 Inv-loop μ-loop
-returns-2 c =
-    let l = c .before in
-    sym (place-none packed-keys (l .before .args .v) (l .loop .k + 10) (l .loop .k) (omega (arith, c .loop-test .left))) ∙ l .loop .inv .1
 
 pub key-packed-spec : {M : Type 1} → statement M
 key-packed-spec =
     tie.close
     (tie.spec
-    Inv-loop
-    μ-loop
-    loop-holds
-    mul-if1
-    array-read-if1
-    cast-result
-    add-result
     returns
-    add-k
-    loop-less
-    loop-again
-    returns-2)
+    returns-2
+    returns-3
+    returns-4
+    returns-5
+    returns-6
+    returns-7
+    returns-8
+    returns-9
+    returns-10
+    returns-11
+    returns-12
+    returns-13
+    returns-14
+    returns-15
+    returns-16
+    returns-17
+    returns-18)
