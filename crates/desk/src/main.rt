@@ -35,7 +35,7 @@ fn answer_with_short(table: u64) -> Report {
     let output_end = entries(4096, table == 8);
     gate::run(
         b"[ECHO 1]",
-        100_000,
+        1_000_000,
         200,
         4_096,
         4_096,
