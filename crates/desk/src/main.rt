@@ -1,5 +1,5 @@
 // RUN's cases, a line for each: those of document 01 that no theorem holds; the tariffs of examples/; its edges, with the greatest limits and one beyond each,
-// the deepest evaluations with the widest call, and each table one entry too small.
+// the deepest evaluations with the widest call, and each table one entry too small. Limits are the greatest unless given.
 use answers::Report;
 ghost use Prim.Native.Nat.{_≤_};
 

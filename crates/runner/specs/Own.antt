@@ -5,7 +5,7 @@ use lib.IntN.{ℤ}
 use lib.ListN.{replicate}
 use Rattle.language.specs.Limits as language
 use Rattle.language.specs.Limits.{greatest-limits}
-use Rattle.language.specs.Promises.{Told, Ran, Run}
+use Rattle.language.specs.Promises.{Lent, Told, Ran, Run}
 use Rattle.gate.specs.Lent.{limits-of, working, stores}
 use Rattle.runner.specs.declared.Limits.{Limits}
 
@@ -16,12 +16,18 @@ given l = limits-of (l .fuel) (l .depth) (l .bindings) (l .cells) (l .output)
 abbrev pub program-limits : language.Limits
 program-limits = limits-of 100000 200 (greatest-limits .bindings) (greatest-limits .cells) (greatest-limits .output)
 
-abbrev pub empty : (n : ℕ) → List ℕ  -- a table of n zeros
+-- ---- the tables: zeros, and large enough for the greatest limits
+
+abbrev pub empty : (n : ℕ) → List ℕ
 empty n = replicate n 0
 
--- RUN's promise with empty tables, as large as the greatest limits ask: what is said, and what the output then holds
+abbrev pub works : List Lent
+works = working (empty 4096) (empty 4097) (empty 4096) (empty 4096) (empty 8192)
+
+abbrev pub stores-for : language.Limits → List Lent
+stores-for L = stores L (empty 8192) (empty 8192)
+
+-- RUN's promise with these tables: what is said, and what the output then holds
 module _ (L : language.Limits) (text : List ℕ) (output : List ℤ) where
   pub data RunOwn : Told → List ℤ → Type 0 where
-    runs : {x : Ran} →
-        Run L text (empty 4096) (working (empty 4096) (empty 4097) (empty 4096) (empty 4096) (empty 8192)) (stores L (empty 8192) (empty 8192)) output x →
-        RunOwn (x .says) (x .output)
+    runs : {x : Ran} → Run L text (empty 4096) works (stores-for L) output x → RunOwn (x .says) (x .output)
