@@ -34,12 +34,8 @@ pub fn count_at(line: &[u8], at: usize) -> u64 {
     amounts::to_word(number_at(line, at))
 }
 
-// Reads the script that follows, where one does, and answers its length; else the length of the last one.
-fn script(line: &[u8], text: &mut [u8], last: usize) -> usize {
-    if count_at(line, 0) == 0 {
-        return last;
-    }
-    let length = count_at(line, 8) as usize;
+// Reads a script of so many bytes and the line end behind it, and answers its length; where the text has no room it reads nothing and answers `last`.
+pub fn read_script(text: &mut [u8], length: usize, last: usize) -> usize {
     if text.len() <= length {
         return last;
     }
@@ -47,6 +43,14 @@ fn script(line: &[u8], text: &mut [u8], last: usize) -> usize {
     let end = length + 1;
     io::read_full(0, &mut text[0..end]);
     length
+}
+
+// Reads the script that follows, where one does, and answers its length; else the length of the last one.
+fn script(line: &[u8], text: &mut [u8], last: usize) -> usize {
+    if count_at(line, 0) == 0 {
+        return last;
+    }
+    read_script(text, count_at(line, 8) as usize, last)
 }
 
 fn as_expected(line: &[u8], report: Report) -> bool {

@@ -1,5 +1,5 @@
 // RUN's cases, a line for each: those of document 01 that no theorem holds; the tariffs of examples/; its edges, with the greatest limits and one beyond each,
-// the deepest evaluations with the widest call, and each table one entry too small.
+// the deepest evaluations with the widest call, and each table one entry too small. Limits are the greatest unless given.
 use answers::Report;
 ghost use Prim.Native.Nat.{_≤_};
 
@@ -35,7 +35,7 @@ fn answer_with_short(table: u64) -> Report {
     let output_end = entries(4096, table == 8);
     gate::run(
         b"[ECHO 1]",
-        100_000,
+        1_000_000,
         200,
         4_096,
         4_096,

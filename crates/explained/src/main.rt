@@ -8,18 +8,6 @@ fn next_line(line: &mut [u8; 80]) -> bool {
     io::read_full(0, line) == 80
 }
 
-// Reads the script that follows, and answers its length.
-fn next_script(line: &[u8], text: &mut [u8]) -> usize {
-    let length = cases::count_at(line, 0) as usize;
-    if text.len() <= length {
-        return 0;
-    }
-    // with the line end behind it
-    let end = length + 1;
-    io::read_full(0, &mut text[0..end]);
-    length
-}
-
 fn say_title(line: &[u8]) {
     if 80 <= line.len() {
         lines::text(&line[48..80]);
@@ -37,7 +25,7 @@ fn limits_in(line: &[u8]) -> Limits {
 }
 
 fn explain_next(line: &[u8], text: &mut [u8]) {
-    let length = next_script(line, text);
+    let length = cases::read_script(text, cases::count_at(line, 0) as usize, 0);
     say_title(line);
     if length <= text.len() {
         explaining::explain(&text[0..length], limits_in(line));

@@ -7,7 +7,7 @@ use native.Mathlib.Nat.{not-suc-le-zero, le-of-suc-le-suc}
 use native.Mathlib.Numerals.{add-one}
 use native.Mathlib.Omega.{arith}
 use lib.Dec.{leb}
-use lib.ListN.{length, set, take, drop, getD, replicate, length-set}
+use lib.ListN.{length, set, take, drop, replicate, length-set}
 use borrow.Author.Tests.{leb-true, leb-false}
 use Rattle.limits.specs.Cleared.{zeroed}
 
@@ -85,22 +85,3 @@ module _ {A : Type 0} (v : A) where
   drop-zeroed zero l = refl
   drop-zeroed (suc n) [] = refl
   drop-zeroed (suc n) (x ∷ l) = drop-zeroed n l
-
-  pub getD-zeroed-in : (n : ℕ) (l : List A) (i : ℕ) → i < n → getD (zeroed v n l) i v ≡ v
-  getD-zeroed-in zero l i h = absurd (not-suc-le-zero h)
-  getD-zeroed-in (suc n) [] i h = refl
-  getD-zeroed-in (suc n) (x ∷ l) zero h = refl
-  getD-zeroed-in (suc n) (x ∷ l) (suc i) h = getD-zeroed-in n l i (le-of-suc-le-suc h)
-
-  pub getD-zeroed-past : (n : ℕ) (l : List A) (i : ℕ) (d : A) → n ≤ i → getD (zeroed v n l) i d ≡ getD l i d
-  getD-zeroed-past zero l i d h = refl
-  getD-zeroed-past (suc n) [] i d h = refl
-  getD-zeroed-past (suc n) (x ∷ l) zero d h = absurd (not-suc-le-zero h)
-  getD-zeroed-past (suc n) (x ∷ l) (suc i) d h = getD-zeroed-past n l i d (le-of-suc-le-suc h)
-
-  -- clearing again changes nothing more
-  pub zeroed-twice : (m n : ℕ) (l : List A) → m ≤ n → zeroed v n (zeroed v m l) ≡ zeroed v n l
-  zeroed-twice zero n l h = refl
-  zeroed-twice (suc m) zero l h = absurd (not-suc-le-zero h)
-  zeroed-twice (suc m) (suc n) [] h = refl
-  zeroed-twice (suc m) (suc n) (x ∷ l) h = ap (λ (t : List A). v ∷ t) (zeroed-twice m n l (le-of-suc-le-suc h))

@@ -1,5 +1,8 @@
 // RUN for programs: with tables of its own, all but the output, which the caller reads afterwards.
 use answers::Report;
+ghost use mathlib.Core.Path.{_≡_};
+ghost use Rattle.answers.specs.Answers.{said};
+ghost use Rattle.runner.specs.Own.{given, program-limits, RunOwn};
 
 pub struct Limits {
     pub fuel: u64,
@@ -10,7 +13,9 @@ pub struct Limits {
 }
 
 // What document 01 gives a script on standard input: fuel 100,000, depth 200, and the rest greatest.
-pub fn usual_limits() -> Limits {
+pub fn usual_limits() -> Limits
+    ensures { λ r. ⌜ given r ≡ program-limits ⌝ }
+{
     Limits {
         fuel: 100_000,
         depth: 200,
@@ -20,7 +25,9 @@ pub fn usual_limits() -> Limits {
     }
 }
 
-pub fn run(text: &[u8], limits: Limits, output: &mut [i64]) -> Report {
+pub fn run(text: &[u8], limits: Limits, output: &mut [i64]) -> Report
+    ensures { λ r. ⌜ RunOwn (given limits) (now (text .entry)) (now (output .entry)) (said r) (now (output .exit)) ⌝ }
+{
     let mut tree = [0u64; 4096];
     let mut words = [0u64; 4096];
     let mut stack = [0u64; 4097];
