@@ -19,8 +19,7 @@ all-stays s (cut {s = t} {o = halt w p u} h (aHalt k)) = (stays s t h, stays t u
 
 pub nothing-given-back : NothingGivenBack
 nothing-given-back L L′ d d′ le deeper ρ =
-    let sim = level-sim le d d′ deeper in
-    (
+    let sim = level-sim le d d′ deeper in (
       (λ e s. all-stays s (sim .expr-sim e ρ s)),
       (λ a s. all-stays s (sim .arg-sim a ρ s)),
       (λ x s. all-stays s (sim .def-sim x ρ s)),

@@ -69,15 +69,13 @@ module _ (L : Limits) (text : List ℕ) where
     run-elsewhere (too-much h n) =
         (run-refuses L text tree′ works′ stores′ output′ LIMIT, too-much h n, record { says = refl; outputs = refl; trees = λ _ a. absurd (n a) })
     run-elsewhere (Run.too-small h a f) = absurd (true≢false (sym large ∙ f))
-    run-elsewhere (not-run {r} {p} h a f x) =
-        (
-          record { says = told (refused r p) start; tree = zeroed tree-words tree′; works = cleared works′; stores = untouched stores′; output = output′ },
-          not-run h a large′ x,
-          record { says = refl; outputs = refl; trees = λ _ _. tree-first text (refuse r p) x tree tree′ },
-        )
+    run-elsewhere (not-run {r} {p} h a f x) = (
+      record { says = told (refused r p) start; tree = zeroed tree-words tree′; works = cleared works′; stores = untouched stores′; output = output′ },
+      not-run h a large′ x,
+      record { says = refl; outputs = refl; trees = λ _ _. tree-first text (refuse r p) x tree tree′ },
+    )
     run-elsewhere (ran {b} {a} h m f x e) =
-        let n = state-of (run L b) .numbers in
-        (
+        let n = state-of (run L b) .numbers in (
           ran-with L text tree′ works′ stores′ output′ b a (state-of (run L b)),
           ran h m large′ x e,
           record {
@@ -90,8 +88,7 @@ module _ (L : Limits) (text : List ℕ) where
 pub run-carries-nothing-over : RunCarriesNothingOver
 run-carries-nothing-over L text tree tree′ works works′ stores stores′ output output′ r r′ large large′ h h′ =
     let m = run-elsewhere L text tree tree′ works works′ stores stores′ output output′ large large′ h in
-    let e : m .0 ≡ r′ = one-run L text tree′ works′ stores′ output′ .1 (m .0) r′ (m .1) h′ in
-    (
+    let e : m .0 ≡ r′ = one-run L text tree′ works′ stores′ output′ .1 (m .0) r′ (m .1) h′ in (
       m .2 .says ∙ ap (λ (q : Ran). q .says) e,
       m .2 .outputs ∙ ap (λ (q : Ran). take (q .says .numbers) (q .output)) e,
       λ k a. m .2 .trees k a ∙ ap (λ (q : Ran). take tree-words (q .tree)) e,
