@@ -62,6 +62,10 @@ module _ (text : List ℕ) (at : ℕ) (part : List ℕ) where
 put-first : {t : Told} {report : List ℕ} {r : ℕ} {p : List ℕ} → Put t report r p → take report-entries p ≡ reported t
 put-first {t} {report} h = ap (take report-entries) (h .holds) ∙ take-at (reported t) (drop report-entries report) report-entries refl
 
+-- as many numbers as the report says
+put-many : (x : Ran) {report : List ℕ} {r : ℕ} {p : List ℕ} → Put (x .says) report r p → take (getD p 5 0) (x .output) ≡ take (x .says .numbers) (x .output)
+put-many x h = ap (λ (l : List ℕ). take (getD l 5 0) (x .output)) (h .holds)
+
 same-put : {t u : Told} {report report′ : List ℕ} {r s : ℕ} {p q : List ℕ} → t ≡ u → Put t report r p → Put u report′ s q →
     (r ≡ s) × (take report-entries p ≡ take report-entries q)
 same-put e h k = (
@@ -94,8 +98,7 @@ module _ (L : Limits) (text tree tree′ : List ℕ) (works works′ stores stor
       run-into-afresh (RunInto.runs {x = c} h a put) (RunInto.runs {x = d} k b put′) =
           let e = run-carries-nothing-over-claim L text tree tree′ works works′ stores stores′ output output′ c d large large′ a b in
           let f = same-put (e .0) put put′ in
-          let many = λ (x : Ran) (report p : List ℕ) (r : ℕ) (put : Put (x .says) report r p). ap (λ (l : List ℕ). take (getD l 5 0) (x .output)) (put .holds) in
-          (f .0, f .1, many c report _ _ put ∙ (e .1 ∙ sym (many d report′ _ _ put′)), e .2)
+          (f .0, f .1, put-many c put ∙ (e .1 ∙ sym (put-many d put′)), e .2)
 
 -- ---- NAME's part
 
