@@ -4,44 +4,60 @@ use mathlib.Core.Bool.{Bool, true, false}
 use mathlib.Core.Option.{some}
 use Prim.Native.Nat.{ℕ, _-_}
 use lib.Dec.{eqb}
-use borrow.Author.Tests.{ne-eqb}
-use Rattle.language.specs.Answers.{FUEL, DEPTH, CELLS, BINDINGS, OUTPUT, RANGE, ZERO, UNSET, Stop, limit, error, stopped}
+use borrow.Author.Tests.{eq-eqb, ne-eqb}
+use Rattle.language.specs.Answers.{FUEL, DEPTH, CELLS, BINDINGS, OUTPUT, RANGE, ZERO, UNSET, Stop, limit, error, stop-number, stopped, number-of}
 use Rattle.machine.specs.Entries.{pick}
-use Rattle.machine.specs.Shown.{stopBy, answerOf}
+use Rattle.machine.specs.Shown.{answerOf}
+use Rattle.machine.proofs.Whole.{Known, known-value, known-stop, known-none, stop-back}
 use Rattle.machine.specs.declared.Counts.{Counts}
 use Rattle.machine.specs.declared.Ending.{Ending}
-use Rattle.machine.specs.declared.Ending.the-variants.{Value, NoRule}
+use Rattle.machine.specs.declared.Ending.the-variants.{NoRule}
 use Rattle.machine.specs.declared.Ending.the-variants as E
 use Rattle.answers.specs.declared.Answer.{Answer}
-use Rattle.answers.specs.declared.Answer.the-variants.{Fuel, Depth, Cells, Bindings, Output, Range, Zero, Unset}
+use Rattle.answers.specs.declared.Answer.the-variants.{«Type»}
 use Rattle.answers.specs.declared.Report.{Report}
-use Rattle.answers.specs.Answers.{meant}
-use Rattle.answers.specs.Ended.{stopped-by, ended, reported}
+use Rattle.answers.specs.Answers.{meant, refusal}
+use Rattle.answers.specs.Ended.{stopped-by, ended, counted, reported}
 
--- one test more on a stop's number
-module _ (p : ℕ) where
-  next-test : (t : Bool) (a : Answer) (w : Stop) (b : Unit {0} → Answer) (v : Unit {0} → Stop) → meant a ≡ stopped w p → meant (b tt) ≡ stopped (v tt) p →
-      meant (pick t (λ _. a) b) ≡ stopped (pick t (λ _. w) v) p
-  unfolding pick
-  next-test true a w b v h k = h
-  next-test false a w b v h k = k
-
-  pub stopped-meant : (n : ℕ) → meant (stopped-by n p) ≡ stopped (stopBy n) p
-  unfolding stopped-by
-  stopped-meant n =
-      next-test (eqb n 20) (Fuel p) (limit FUEL) _ _ refl
-      (next-test (eqb n 21) (Depth p) (limit DEPTH) _ _ refl
-      (next-test (eqb n 22) (Cells p) (limit CELLS) _ _ refl
-      (next-test (eqb n 23) (Bindings p) (limit BINDINGS) _ _ refl
-      (next-test (eqb n 24) (Output p) (limit OUTPUT) _ _ refl
-      (next-test (eqb n 25) (Range p) (error RANGE) _ _ refl
-      (next-test (eqb n 26) (Zero p) (error ZERO) (λ _. Unset p) (λ _. error UNSET) refl refl))))))
+-- a stop that the evaluator knows
+pub stopped-meant : (w : Stop) (p : ℕ) → meant (stopped-by (stop-number w) p) ≡ stopped w p
+unfolding stopped-by pick
+stopped-meant (limit FUEL) p = refl
+stopped-meant (limit DEPTH) p = refl
+stopped-meant (limit CELLS) p = refl
+stopped-meant (limit BINDINGS) p = refl
+stopped-meant (limit OUTPUT) p = refl
+stopped-meant (error RANGE) p = refl
+stopped-meant (error ZERO) p = refl
+stopped-meant (error UNSET) p = refl
 
 -- the answer is the end's, where it has one
-pub ended-meant : (e : Ending) → (e ≡ NoRule → ⊥) → answerOf e ≡ some (meant (ended e))
-ended-meant (Value t x) n = refl
-ended-meant (E.Stop k p) n = ap some (sym (stopped-meant p k))
-ended-meant NoRule n = absurd (n refl)
+pub ended-meant : {e : Ending} → Known e → (e ≡ NoRule → ⊥) → answerOf e ≡ some (meant (ended e))
+ended-meant known-value n = refl
+ended-meant (known-stop w {p}) n = ap (λ (x : Stop). some (stopped x p)) (stop-back w) ∙ ap some (sym (stopped-meant w p))
+ended-meant known-none n = absurd (n refl)
+
+-- no stop has TYPE's number
+not-type : (w : Stop) → eqb (stop-number w) 9 ≡ false
+not-type (limit FUEL) = refl
+not-type (limit DEPTH) = refl
+not-type (limit CELLS) = refl
+not-type (limit BINDINGS) = refl
+not-type (limit OUTPUT) = refl
+not-type (error RANGE) = refl
+not-type (error ZERO) = refl
+not-type (error UNSET) = refl
+
+-- so its counts are reported
+module _ (f : ℕ) (n : Counts) where
+  tested : (e : Ending) → eqb (number-of (meant (ended e))) 9 ≡ false → reported f e n ≡ counted f (ended e) n
+  unfolding pick
+  tested e h = ap (λ t. pick t (λ _. refusal (ended e)) (λ _. counted f (ended e) n)) h
+
+  pub reported-counts : {e : Ending} → Known e → (e ≡ NoRule → ⊥) → reported f e n ≡ counted f (ended e) n
+  reported-counts (known-value {t} {x}) k = tested (E.Value t x) refl
+  reported-counts (known-stop w {p}) k = tested (E.Stop (stop-number w) p) (ap (λ a. eqb (number-of a) 9) (stopped-meant w p) ∙ not-type w)
+  reported-counts known-none k = absurd (k refl)
 
 -- ---- what the code tests
 
@@ -50,13 +66,19 @@ skip : {A : Type 0} (n k : ℕ) → (n ≡ k → ⊥) → (x : Unit {0} → A) (
 unfolding pick
 skip n k h x y = ap (λ t. pick t x y) (ne-eqb n k h)
 
-pub stopped-last : (n p : ℕ) → (n ≡ 20 → ⊥) → (n ≡ 21 → ⊥) → (n ≡ 22 → ⊥) → (n ≡ 23 → ⊥) → (n ≡ 24 → ⊥) → (n ≡ 25 → ⊥) → (n ≡ 26 → ⊥) →
-    Unset p ≡ stopped-by n p
+pub stopped-last : (n p : ℕ) → (n ≡ 20 → ⊥) → (n ≡ 21 → ⊥) → (n ≡ 22 → ⊥) → (n ≡ 23 → ⊥) → (n ≡ 24 → ⊥) → (n ≡ 25 → ⊥) → (n ≡ 26 → ⊥) → (n ≡ 27 → ⊥) →
+    «Type» 0 ≡ stopped-by n p
 unfolding stopped-by
-stopped-last n p a b c d e f g =
+stopped-last n p a b c d e f g h =
     sym
-    (skip n 20 a _ _ ∙ (skip n 21 b _ _ ∙ (skip n 22 c _ _ ∙ (skip n 23 d _ _ ∙ (skip n 24 e _ _ ∙ (skip n 25 f _ _ ∙ skip n 26 g _ _))))))
+    (skip n 20 a _ _ ∙ (skip n 21 b _ _ ∙ (skip n 22 c _ _ ∙ (skip n 23 d _ _ ∙ (skip n 24 e _ _ ∙ (skip n 25 f _ _ ∙ (skip n 26 g _ _ ∙ skip n 27 h _ _)))))))
 
-pub reported-as : {a : Answer} {u : ℕ} (f : ℕ) (e : Ending) (n : Counts) → a ≡ ended e → u ≡ f - n .units →
+pub reported-refused : {a : Answer} {x : ℕ} (f : ℕ) (e : Ending) (n : Counts) {r : Report} → a ≡ ended e → x ≡ number-of (meant a) → x ≡ 9 → r ≡ refusal a → r ≡ reported f e n
+unfolding pick
+reported-refused f e n p q t h =
+    h ∙ (ap refusal p ∙ sym (ap (λ t. pick t (λ _. refusal (ended e)) (λ _. counted f (ended e) n)) (eq-eqb _ 9 (ap (λ a. number-of (meant a)) (sym p) ∙ (sym q ∙ t)))))
+
+pub reported-as : {a : Answer} {x u : ℕ} (f : ℕ) (e : Ending) (n : Counts) → a ≡ ended e → x ≡ number-of (meant a) → (x ≡ 9 → ⊥) → u ≡ f - n .units →
     _≡_ {A = Report} (record { answer = a; units = u; bindings = n .bindings; cells = n .cells; numbers = n .numbers }) (reported f e n)
-reported-as f e n p q = rw (p, q)
+reported-as f e n p q t h =
+    rw (p, h) (sym (tested f n e (ne-eqb _ 9 λ k. t (q ∙ (ap (λ a. number-of (meant a)) p ∙ k)))))

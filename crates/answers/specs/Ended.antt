@@ -1,13 +1,15 @@
 -- What a run of the evaluator is reported as.
 use Prim.Native.Nat.{ℕ, _-_}
 use lib.Dec.{eqb}
+use Rattle.language.specs.Answers.{number-of}
 use Rattle.machine.specs.Entries.{pick}
 use Rattle.machine.specs.declared.Ending.{Ending}
 use Rattle.machine.specs.declared.Ending.the-variants.{Value, Stop, NoRule}
 use Rattle.machine.specs.declared.Counts.{Counts}
 use Rattle.answers.specs.declared.Answer.{Answer}
-use Rattle.answers.specs.declared.Answer.the-variants.{Done, Fuel, Depth, Cells, Bindings, Output, Range, Zero, Unset}
+use Rattle.answers.specs.declared.Answer.the-variants.{Done, «Type», Fuel, Depth, Cells, Bindings, Output, Range, Zero, Unset}
 use Rattle.answers.specs.declared.Report.{Report}
+use Rattle.answers.specs.Answers.{meant, refusal}
 
 -- a stop by its number
 unfoldable pub stopped-by : ℕ → ℕ → Answer
@@ -19,14 +21,19 @@ stopped-by n p =
     pick (eqb n 24) (λ _. Output p) λ _.
     pick (eqb n 25) (λ _. Range p) λ _.
     pick (eqb n 26) (λ _. Zero p) λ _.
-    Unset p
+    pick (eqb n 27) (λ _. Unset p) λ _.
+    «Type» 0
 
--- a state that no rule fits has no answer: an accepted text never comes to one
+-- a state that no rule fits has no answer, and an accepted text never comes to one: it is refused where no node stands
 abbrev pub ended : Ending → Answer
 ended (Value t x) = Done
 ended (Stop n p) = stopped-by n p
-ended NoRule = Done
+ended NoRule = «Type» 0
 
--- with so much fuel at the start
+-- an answer with the counts of a run, with so much fuel at the start
+abbrev pub counted : (fuel : ℕ) → Answer → Counts → Report
+counted f a n = record { answer = a; units = f - n .units; bindings = n .bindings; cells = n .cells; numbers = n .numbers }
+
+-- a refusal has none
 abbrev pub reported : (fuel : ℕ) → Ending → Counts → Report
-reported f e n = record { answer = ended e; units = f - n .units; bindings = n .bindings; cells = n .cells; numbers = n .numbers }
+reported f e n = pick (eqb (number-of (meant (ended e))) 9) (λ _. refusal (ended e)) λ _. counted f (ended e) n

@@ -28,8 +28,8 @@ use Rattle.machine.proofs.Relation.{Kept}
 use Rattle.machine.proofs.Whole.{RunsAs, text-runs, ends-as, never-stuck}
 use Rattle.answers.specs.declared.Report.{Report}
 use Rattle.answers.specs.Answers.{meant, said}
-use Rattle.answers.specs.Ended.{ended, reported}
-use Rattle.answers.proofs.Ends.{ended-meant}
+use Rattle.answers.specs.Ended.{ended, counted, reported}
+use Rattle.answers.proofs.Ends.{ended-meant, reported-counts}
 use Rattle.gate.specs.Steps.{Came, came, cleared-after}
 use Rattle.gate.proofs.Tables.{both, fits-in, front-large, rest-large, cleared-append, cleared-kept, cleared-lent, word-of-tree}
 
@@ -151,7 +151,10 @@ module _ (n : ℕ) (size : n ≡ 2 * ring-rows) (L : Limits) (text tree : List �
 
       module _ (t : List ℕ) (tree-is : t ≡ holding tree-words (table b) tree) where
         ends : end-of (run L b) ≡ some (meant (ended (evaluated t .ending)))
-        ends = ends-as (runs t tree-is) ∙ ended-meant (evaluated t .ending) (never-stuck (runs t tree-is) (typed-of x .1))
+        ends = ends-as (runs t tree-is) ∙ ended-meant (runs t tree-is .ending-known) (never-stuck (runs t tree-is) (typed-of x .1))
+
+        counts : reported (L .fuel) (evaluated t .ending) (evaluated t .after .counts) ≡ counted (L .fuel) (ended (evaluated t .ending)) (evaluated t .after .counts)
+        counts = reported-counts (L .fuel) (evaluated t .after .counts) (runs t tree-is .ending-known) (never-stuck (runs t tree-is) (typed-of x .1))
 
         kept-waiting : Kept n waiting (evaluated t .after .waiting)
         unfolding evaluated
@@ -164,7 +167,7 @@ module _ (n : ℕ) (size : n ≡ 2 * ring-rows) (L : Limits) (text tree : List �
             let f = fit-of large in
             let h = runs t tree-is in
             subst (Run L text tree working stores output)
-            (ran-eq (h .tells (meant (ended (evaluated t .ending))) ∙ ap (λ k. said (k .report)) (sym e)) (sym tree-is)
+            (ran-eq (h .tells (meant (ended (evaluated t .ending))) ∙ (ap said (sym counts) ∙ ap (λ k. said (k .report)) (sym e))) (sym tree-is)
             (works-are wh (ap (λ k. k .waiting) e ∙ cleared-kept n waiting (evaluated t .after .waiting) (f .waiting-fits) kept-waiting))
             (two-eq
             (sym (ap (λ k. k .bindings) e ∙ cleared-kept (2 * L .bindings) bindings (evaluated t .after .bindings) (f .bindings-fit) (h .bindings-kept)))

@@ -16,7 +16,7 @@ use Rattle.language.specs.Typing.{Typable}
 use Rattle.language.specs.Rules.{stop, no-rule, Outcome, ok, halt, bind, need, within, level, run}
 use Rattle.language.specs.Outcome.{end-of}
 use Rattle.language.specs.Promises.{Verdict, typed}
-use Rattle.language.specs.Claims.{AcceptedExactly, OneVerdict, OneTree, OneLevels, TreeFits, InTextOrder, TypedOrRefused, UniqueTypes, Levels128, NoRule, NeverStuck, EndsByTheTable, SameUnderLargerLimits, NumbersBegin, CountsInLimits, LimitIsUsedUp, WhileRule, NoRuleIsReached, OneCheck, OneRun, DeskHolds}
+use Rattle.language.specs.Claims.{AcceptedExactly, OneVerdict, OneTree, OneLevels, TreeFits, InTextOrder, TypedOrRefused, UniqueTypes, Levels128, NoRule, NeverStuck, EndsByTheTable, SameUnderLargerLimits, NumbersBegin, CountsInLimits, LimitIsUsedUp, WhileRule, NoRuleIsReached, OneCheck, OneRun, DeskHolds, NothingGivenBack, CheckCarriesNothingOver, RunCarriesNothingOver}
 use Rattle.language.proofs.reading.Shown.{one-tree, levels-once, room, in-text-order}
 use Rattle.language.proofs.typing.Unique.{unique-types}
 use Rattle.language.proofs.typing.Judged.{one-verdict}
@@ -26,8 +26,10 @@ use Rattle.language.proofs.running.Sound.{sound}
 use Rattle.language.proofs.running.Stable.{same-under-larger-limits, numbers-begin}
 use Rattle.language.proofs.running.Counts.{counts-in-limits, limit-is-used-up}
 use Rattle.language.proofs.running.Rounds.{while-rule}
+use Rattle.language.proofs.running.Kept.{nothing-given-back}
 use Rattle.language.proofs.texts.Verdicts.{verdict, verdict-right, only-verdict}
 use Rattle.language.proofs.texts.Promised.{one-check, one-run}
+use Rattle.language.proofs.texts.Afresh.{check-carries-nothing-over, run-carries-nothing-over}
 use Rattle.language.proofs.texts.Desk.{desk-holds}
 
 pub accepted-exactly : AcceptedExactly
@@ -107,3 +109,12 @@ one-run-claim = one-run
 
 pub desk-claim : DeskHolds
 desk-claim = desk-holds
+
+pub nothing-given-back-claim : NothingGivenBack
+nothing-given-back-claim = nothing-given-back
+
+pub check-carries-nothing-over-claim : CheckCarriesNothingOver
+check-carries-nothing-over-claim = check-carries-nothing-over
+
+pub run-carries-nothing-over-claim : RunCarriesNothingOver
+run-carries-nothing-over-claim = run-carries-nothing-over

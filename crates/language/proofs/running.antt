@@ -1,4 +1,6 @@
 pub mod Sound
+pub mod Cells
 pub mod Stable
 pub mod Counts
 pub mod Rounds
+pub mod Kept

@@ -1,5 +1,6 @@
 pub mod Verdicts
 pub mod Promised
+pub mod Afresh
 pub mod Tables
 pub mod Desk
 pub mod Worked

@@ -1,6 +1,7 @@
 -- What is claimed of the language, each claim as a type with a sentence; proofs/Claims.antt proves each.
-use Rattle.language.specs.Library.{_≡_, _↔_, _⊎_, ℕ, zero, suc, _≤_, ℤ, List, [], _∷_, _++_, map, length, some}
-use Rattle.language.specs.Syntax.{at, Expr, name, last, echo, while, Block, block}
+use Rattle.language.specs.Library.{_≡_, _↔_, _⊎_, ℕ, zero, suc, _≤_, ℤ, true, List, [], _∷_, _++_, map, length, some}
+use lib.ListN.{take}
+use Rattle.language.specs.Syntax.{at, Expr, name, ExprP, last, Def, Stat, echo, while, Block, block}
 use Rattle.language.specs.Bytes.{bytesOf}
 use Rattle.language.specs.Answers.{FUEL, DEPTH, CELLS, BINDINGS, OUTPUT, Stop, limit, error, done, stopped, Result, fine}
 use Rattle.language.specs.Words.{Word, wordsOf, most}
@@ -11,10 +12,10 @@ use Rattle.language.specs.Reading.{Opens, Within, Reading}
 use Rattle.language.specs.Types.{Ty, base, fn, Tys, tnil, tcons, Ctx}
 use Rattle.language.specs.Typing.{HasE, Typable}
 use Rattle.language.specs.Order.{JudgedNode, expr-node, adr-node, param-node, def-node, stat-node, nodes-block, TypeRefused}
-use Rattle.language.specs.Limits.{Limits, greatest-limits, _⊑_}
+use Rattle.language.specs.Limits.{Limits, greatest-limits, _⊑_, Admitted}
 use Rattle.language.specs.Rules.{Env, State, stop, no-rule, Outcome, ok, halt, bind, need, branch, enter, as-truth, in-block, level, run}
 use Rattle.language.specs.Outcome.{state-of, end-of}
-use Rattle.language.specs.Promises.{Verdict, tree-words, Lent, Checked, Check, Ran, Run}
+use Rattle.language.specs.Promises.{Verdict, text-bytes, tree-words, Lent, tree-table, large-enough, Checked, Check, Ran, all-large, Run}
 use Rattle.language.specs.Desk.{AllHold, desk}
 
 -- ---- texts
@@ -178,3 +179,44 @@ OneRun = (L : Limits) (text tree : List ℕ) (works stores : List Lent) (output 
 -- The desk's table holds: reading, verdict and run, from its texts.
 abbrev pub DeskHolds : Type 0
 DeskHolds = AllHold desk
+
+-- ---- nothing is given back, nothing carries over
+
+-- what was taken in the state s is taken in t, and the numbers put out in s stand in t, with any others behind them
+pub record Stays (s t : State) : Type 0 where
+  pub units-stay : s .units ≤ t .units
+  pub bindings-stay : s .bindings ≤ t .bindings
+  pub cells-stay : length (s .cells) ≤ length (t .cells)
+  pub numbers-stay : (more : List ℤ) × (t .numbers ≡ s .numbers ++ more)
+
+-- an evaluation and the same one under larger limits, from any state: all stays, what there was at first and what there was where the smaller limits ended it
+abbrev pub AllStays : {A : Type 0} (under larger : State → Outcome A) → Type 0
+AllStays under larger = (s : State) → Stays s (state-of (under s)) × Stays (state-of (under s)) (state-of (larger s))
+
+-- Nothing is given back during a run, whatever is evaluated and however it ends. Smaller limits end an evaluation at an earlier moment, so this speaks of every moment
+-- on the way: what was taken or put out by then stays so to the end, also past the end of a call or a block.
+abbrev pub NothingGivenBack : Type 0
+NothingGivenBack = (L L′ : Limits) (d d′ : ℕ) → L ⊑ L′ → d ≤ d′ → (ρ : Env) →
+    ((e : Expr) → AllStays (level L d .expr e ρ) (level L′ d′ .expr e ρ)) ×
+    ((a : ExprP) → AllStays (level L d .arg a ρ) (level L′ d′ .arg a ρ)) ×
+    ((x : Def) → AllStays (level L d .def x ρ) (level L′ d′ .def x ρ)) ×
+    ((c : Stat) → AllStays (level L d .stat c ρ) (level L′ d′ .stat c ρ)) ×
+    ((b : Block) → AllStays (in-block (level L d) b ρ) (in-block (level L′ d′) b ρ))
+
+-- Nothing carries over from an earlier call to CHECK: on tables that are large enough, however long and whatever they hold, one text has one answer and one tree
+-- (a text over the length is refused with nothing changed).
+abbrev pub CheckCarriesNothingOver : Type 0
+CheckCarriesNothingOver = (text tree tree′ : List ℕ) (works works′ : List Lent) (c c′ : Checked) →
+    large-enough (tree-table tree ∷ works) ≡ true → large-enough (tree-table tree′ ∷ works′) ≡ true →
+    Check text tree works c → Check text tree′ works′ c′ →
+    (c .answer ≡ c′ .answer) × (length text ≤ text-bytes → take tree-words (c .tree) ≡ take tree-words (c′ .tree))
+
+-- Nothing carries over from an earlier call to RUN: on tables that are large enough, however long and whatever they hold, one text has under the same limits one answer
+-- with its place and counts, puts out the same numbers and has one tree (LENGTH and LIMIT change nothing).
+abbrev pub RunCarriesNothingOver : Type 0
+RunCarriesNothingOver = (L : Limits) (text tree tree′ : List ℕ) (works works′ stores stores′ : List Lent) (output output′ : List ℤ) (r r′ : Ran) →
+    all-large L text tree works stores output ≡ true → all-large L text tree′ works′ stores′ output′ ≡ true →
+    Run L text tree works stores output r → Run L text tree′ works′ stores′ output′ r′ →
+    (r .says ≡ r′ .says) ×
+    (take (r .says .numbers) (r .output) ≡ take (r′ .says .numbers) (r′ .output)) ×
+    (length text ≤ text-bytes → Admitted L → take tree-words (r .tree) ≡ take tree-words (r′ .tree))

@@ -100,16 +100,18 @@ fn stretch_end(text: &[u8], at: usize, sort: Sort) -> usize
     e
 }
 
-// NAME, for the report desk: the very bytes of the name at a place, a part of the lent text and no copy.
+// NAME, for the report desk: the very bytes of the name at a place, a part of the lent text and no copy. It starts at that place, also where it is empty,
+// or at the text's end where the place is past it.
 pub fn name_at<'a>(text: &'a [u8], at: usize) -> &'a [u8]
     ensures { λ r. ⌜ now r ≡ nameAt (now (text .entry)) at ⌝ }
-    ensures { λ r. ⌜ (r .ptr .0 ≡ text .entry .ptr .0) × (0 < length (now r) → r .ptr .1 ≡ at + text .entry .ptr .1) ⌝ }
+    ensures { λ r. ⌜ (r .ptr .0 ≡ text .entry .ptr .0) × (r .ptr .1 ≡ min at (length (now (text .entry))) + text .entry .ptr .1) ⌝ }
 {
-    if text.len() <= at {
-        return &text[..0];
+    let end = text.len();
+    if end <= at {
+        return &text[end..end];
     }
     if !is_letter(text[at]) {
-        return &text[..0];
+        return &text[at..at];
     }
     let e = stretch_end(text, at, Sort::LettersAndDigits);
     &text[at..e]

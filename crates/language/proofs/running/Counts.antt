@@ -1,10 +1,10 @@
 -- What each change of the state keeps, every run keeps: one walk over the rules for every such fact.
-use mathlib.Core.Path.{_≡_, refl, sym, _∙_, ap}
+use mathlib.Core.Path.{_≡_, refl}
 use Prim.Native.Nat.{ℕ, zero, suc, _+_, _≤_, _<_, zero-le}
 use native.Mathlib.Omega.{arith}
 use mathlib.Core.Bool.{Bool, true, false, not as notb}
 use mathlib.Core.List.{List, [], _∷_, _++_}
-use mathlib.Core.Option.{Option, none, some, Option·none-ne-some, Option·some-injective}
+use mathlib.Core.Option.{Option, none, some}
 use lib.Dec.{T, ltb, leb, leb→le, ltb→lt, nltb→le}
 use lib.IntN.{ℤ}
 use lib.ListN.{length, length-append}
@@ -13,9 +13,10 @@ use Rattle.language.specs.Answers.{LimitStop, FUEL, DEPTH, CELLS, BINDIN
 use Rattle.language.specs.Names.{Op, Meaning, literal, operator, free, meaning, head-operator}
 use Rattle.language.specs.Numbers.{Computed, amount, fails}
 use Rattle.language.specs.Limits.{Limits}
-use Rattle.language.specs.Rules.{Val, inZ, inF, inFR, inP, inPR, inA, Env, empty, State, Why, stop, no-rule, Outcome, ok, halt, bind, need, within, branch, take-unit, take-bindings, with-cells, put-out, enter, make, look, behind, store, give, give-cell, Level, exprs, args, cmds, in-block, read, name-rule, apply-rule, expr-rule, arg-rule, def-rule, rounds, stat-rule, step, level, start, run}
+use Rattle.language.specs.Rules.{Val, inZ, inF, inFR, inP, inPR, inA, Env, empty, State, Why, stop, no-rule, Outcome, ok, halt, bind, need, within, branch, take-unit, take-bindings, with-cells, put-out, enter, make, look, store, give, give-cell, Level, exprs, args, cmds, in-block, read, name-rule, apply-rule, expr-rule, arg-rule, def-rule, rounds, stat-rule, step, level, start, run}
 use Rattle.language.specs.Outcome.{state-of}
 use Rattle.language.specs.Claims.{InLimits, UsedUp}
+use Rattle.language.proofs.running.Cells.{length-store}
 use Rattle.language.proofs.running.Stable.{Mark, mark, After, aOk, aHalt, sim-after, SimLevel, block-sim, level-self}
 
 -- I is kept by each change of the state, and H holds where a run may halt
@@ -186,16 +187,6 @@ module _ (L : Limits) {I : State → Type 0} {H : Why → State → Type 0} (W :
 
   pub run-keeps : (b : Block) → I start → Keeps I H (run L b)
   run-keeps b i = block-k (level-keeps (L .depth)) (level-self L (L .depth)) b empty start i
-
--- no count passes its limit
-length-store : (cs : List (Option Val)) (a : ℕ) (v : Val) (c : List (Option Val)) → store cs a v ≡ some c → length c ≡ length cs
-length-store [] a v c e = absurd (Option·none-ne-some _ e)
-length-store (x ∷ cs) zero v c e = ap (λ l. length l) (sym (Option·some-injective _ _ e))
-length-store (x ∷ cs) (suc a) v c e = go (store cs a v) (λ l q. length-store cs a v l q) e
-  where
-    go : (o : Option (List (Option Val))) → ((l : List (Option Val)) → o ≡ some l → length l ≡ length cs) → behind x o ≡ some c → length c ≡ suc (length cs)
-    go none rec e = absurd (Option·none-ne-some _ e)
-    go (some l) rec e = ap (λ l. length l) (sym (Option·some-injective _ _ e)) ∙ ap suc (rec l refl)
 
 -- where a limit stops a run, the limit is used up
 pub data StopsAt (L : Limits) : Why → State → Type 0 where

@@ -1,4 +1,4 @@
--- A run that no limit stops is the same under larger limits, and what any run put out is how the other's numbers begin.
+-- A run that no limit stops is the same under larger limits, what any run put out is how the other's numbers begin, and what any run took the other takes too.
 use mathlib.Core.Path.{_≡_, refl, sym, _∙_, ap}
 use Prim.Native.Nat.{ℕ, zero, suc, _≤_, suc-le-suc}
 use native.Mathlib.Nat.{le-refl, le-trans, le-of-suc-le-suc, not-suc-le-zero}
@@ -8,14 +8,16 @@ use mathlib.Core.List.{List, [], _∷_, _++_, append-assoc, append-nil}
 use mathlib.Core.Option.{Option, none, some}
 use lib.Dec.{T, leb, leb→le, le→leb}
 use lib.IntN.{ℤ}
+use lib.ListN.{length, length-append}
 use Rattle.language.specs.Syntax.{at, arg, Expr, num, name, if-expr, and, or, app, abs, Exprs, one-expr, more-exprs, ExprP, val, adr, Cmds, last, def-then, stat-then, Def, const, fun, fun-rec, var, proc, proc-rec, Stat, echo, set, if-stat, while, call, Block, block}
 use Rattle.language.specs.Answers.{LimitStop, limit}
 use Rattle.language.specs.Names.{Op, Meaning, literal, operator, free, meaning, head-operator}
 use Rattle.language.specs.Numbers.{Computed, amount, fails}
 use Rattle.language.specs.Limits.{Limits, _⊑_}
-use Rattle.language.specs.Rules.{Val, inZ, inF, inFR, inP, inPR, inA, Env, empty, State, Why, stop, Outcome, ok, halt, bind, need, within, branch, take-unit, take-bindings, with-cells, enter, make, look, give, give-cell, Level, exprs, args, cmds, in-block, read, name-rule, apply-rule, expr-rule, arg-rule, def-rule, rounds, stat-rule, bottom, step, level, start, run}
+use Rattle.language.specs.Rules.{Val, inZ, inF, inFR, inP, inPR, inA, Env, empty, State, Why, stop, Outcome, ok, halt, bind, need, within, branch, take-unit, take-bindings, with-cells, put-out, enter, make, look, store, give, give-cell, Level, exprs, args, cmds, in-block, read, name-rule, apply-rule, expr-rule, arg-rule, def-rule, rounds, stat-rule, bottom, step, level, start, run}
 use Rattle.language.specs.Outcome.{state-of}
 use Rattle.language.specs.Claims.{NotLimited}
+use Rattle.language.proofs.running.Cells.{length-store}
 
 -- the numbers of the second list begin with those of the first
 pub data Begins : List ℤ → List ℤ → Type 0 where
@@ -26,25 +28,40 @@ begins-trans : {a b c : List ℤ} → Begins a b → Begins b c → Begins a c
 begins-trans h all = h
 begins-trans h (more n k) = more n (begins-trans h k)
 
--- how far a run has come: the numbers put out, and the units taken
+-- how far a run has come: the numbers put out, and the units, bindings and cells taken
 abbrev pub Mark : Type 0
-Mark = List ℤ × ℕ
+Mark = List ℤ × ℕ × ℕ × ℕ
 
 abbrev pub mark : State → Mark
-mark s = (s .numbers, s .units)
+mark s = (s .numbers, s .units, s .bindings, length (s .cells))
 
 pub record Past (a b : Mark) : Type 0 where
   pub outs : Begins (a .0) (b .0)
   pub used : a .1 ≤ b .1
+  pub made : a .2 ≤ b .2
+  pub taken : a .3 ≤ b .3
 
-pHere : {a : Mark} → Past a a
-pHere = record { outs = all; used = le-refl _ }
+pub pHere : {a : Mark} → Past a a
+pHere = record { outs = all; used = le-refl _; made = le-refl _; taken = le-refl _ }
 
 past-trans : {a b c : Mark} → Past a b → Past b c → Past a c
-past-trans h k = record { outs = begins-trans (h .outs) (k .outs); used = le-trans (h .used) (k .used) }
+past-trans h k =
+    record { outs = begins-trans (h .outs) (k .outs); used = le-trans (h .used) (k .used); made = le-trans (h .made) (k .made); taken = le-trans (h .taken) (k .taken) }
 
 past-unit : (s : State) → Past (mark s) (mark (take-unit s))
-past-unit s = record { outs = all; used = omega arith }
+past-unit s = record { outs = all; used = omega arith; made = le-refl _; taken = le-refl _ }
+
+past-bindings : (n : ℕ) (s : State) → Past (mark s) (mark (take-bindings n s))
+past-bindings n s = record { outs = all; used = le-refl _; made = omega arith; taken = le-refl _ }
+
+past-cell : (s : State) → Past (mark s) (mark (with-cells (s .cells ++ none ∷ []) s))
+past-cell s = record { outs = all; used = le-refl _; made = le-refl _; taken = omega (arith, length-append (s .cells) (none ∷ [])) }
+
+past-store : (s : State) (a : ℕ) (v : Val) (c : List (Option Val)) → store (s .cells) a v ≡ some c → Past (mark s) (mark (with-cells c s))
+past-store s a v c e = record { outs = all; used = le-refl _; made = le-refl _; taken = omega (arith, length-store (s .cells) a v c e) }
+
+past-number : (n : ℤ) (s : State) → Past (mark s) (mark (put-out n s))
+past-number n s = record { outs = more n all; used = le-refl _; made = le-refl _; taken = le-refl _ }
 
 pub data After {A : Type 0} (w : Mark) : Outcome A → Type 0 where
   aOk : {a : A} {s : State} → Past w (mark s) → After w (ok a s)
@@ -93,10 +110,14 @@ module _ {A B : Type 0} where
   sim-bind (cut {o = ok a s} t (aOk u)) f = cut t (after-lift u (sim-after (f a s)))
   sim-bind (cut {o = halt y p s} t (aHalt u)) f = cut t (aHalt u)
 
-  sim-need : (o : Option A) (p : ℕ) (s : State) {k k′ : A → Outcome B} → ((a : A) → Sim (mark s) (k a) (k′ a)) → Sim (mark s) (need o p s k) (need o p s k′)
+  sim-need-as : (o : Option A) (p : ℕ) (s : State) {k k′ : A → Outcome B} → ((a : A) → o ≡ some a → Sim (mark s) (k a) (k′ a)) →
+      Sim (mark s) (need o p s k) (need o p s k′)
   unfolding need
-  sim-need none p s f = same (aHalt pHere)
-  sim-need (some a) p s f = f a
+  sim-need-as none p s f = same (aHalt pHere)
+  sim-need-as (some a) p s f = f a refl
+
+  sim-need : (o : Option A) (p : ℕ) (s : State) {k k′ : A → Outcome B} → ((a : A) → Sim (mark s) (k a) (k′ a)) → Sim (mark s) (need o p s k) (need o p s k′)
+  sim-need o p s f = sim-need-as o p s λ a _. f a
 
 give-sim : (c : Computed) (p : ℕ) (s : State) → Sim (mark s) (give c p s) (give c p s)
 unfolding give
@@ -138,8 +159,9 @@ module _ {L L′ : Limits} (le : L ⊑ L′) where
   enter-sim : {A : Type 0} (p : ℕ) (s : State) {o o′ : Outcome A} → Sim (mark (take-unit s)) o o′ → Sim (mark s) (enter L p s (λ _. o)) (enter L′ p s (λ _. o′))
   enter-sim p s h = sim-within _ _ _ p s (up _ (le .fuel-le)) (sim-lift (past-unit s) h)
 
-  make-sim : {A : Type 0} (n p : ℕ) (s : State) {o o′ : Outcome A} → Sim (mark s) o o′ → Sim (mark s) (make L n p s (λ _. o)) (make L′ n p s (λ _. o′))
-  make-sim n p s h = sim-within _ _ _ p s (up _ (le .bindings-le)) h
+  make-sim : {A : Type 0} (n p : ℕ) (s : State) {o o′ : Outcome A} → Sim (mark (take-bindings n s)) o o′ →
+      Sim (mark s) (make L n p s (λ _. o)) (make L′ n p s (λ _. o′))
+  make-sim n p s h = sim-within _ _ _ p s (up _ (le .bindings-le)) (sim-lift (past-bindings n s) h)
 
 -- rounds, with the same count and then with a larger one
 abbrev Round : (test test′ : State → Outcome Val) (run run′ : State → Outcome (Unit {0})) → Type 0
@@ -203,15 +225,15 @@ module _ {r r′ : Level} (h : SimLevel r r′) where
     def-rule-sim (const p (at q x) t e) ρ s = sim-bind (h .expr-sim e ρ s) λ v s₁. make-sim le 1 p s₁ (same (aOk pHere))
     def-rule-sim (fun p (at q x) t ps e) ρ s = make-sim le 1 p s (same (aOk pHere))
     def-rule-sim (fun-rec p (at q x) t ps e) ρ s = make-sim le 1 p s (same (aOk pHere))
-    def-rule-sim (var p (at q x) t) ρ s = sim-within _ _ _ p s (up _ (le .cells-le)) (make-sim le 1 p (with-cells (s .cells ++ none ∷ []) s) (same (aOk pHere)))
+    def-rule-sim (var p (at q x) t) ρ s = sim-within _ _ _ p s (up _ (le .cells-le)) (sim-lift (past-cell s) (make-sim le 1 p (with-cells (s .cells ++ none ∷ []) s) (same (aOk pHere))))
     def-rule-sim (proc p (at q x) ps b) ρ s = make-sim le 1 p s (same (aOk pHere))
     def-rule-sim (proc-rec p (at q x) ps b) ρ s = make-sim le 1 p s (same (aOk pHere))
 
     stat-rule-sim : (c : Stat) (ρ : Env) (s : State) → Sim (mark s) (stat-rule L r c ρ s) (stat-rule L′ r′ c ρ s)
     stat-rule-sim (echo p e) ρ s =
-        sim-bind (h .expr-sim e ρ s) λ v s₁. sim-need _ p s₁ λ n. sim-within _ _ _ p s₁ (up _ (le .output-le)) (same (aOk (record { outs = more n all; used = le-refl _ })))
+        sim-bind (h .expr-sim e ρ s) λ v s₁. sim-need _ p s₁ λ n. sim-within _ _ _ p s₁ (up _ (le .output-le)) (same (aOk (past-number n s₁)))
     stat-rule-sim (set p (at q x) e) ρ s =
-        sim-need _ p s λ w. sim-need _ p s λ a. sim-bind (h .expr-sim e ρ s) λ v s₁. sim-need _ p s₁ λ c. same (aOk pHere)
+        sim-need _ p s λ w. sim-need _ p s λ a. sim-bind (h .expr-sim e ρ s) λ v s₁. sim-need-as _ p s₁ λ c e. same (aOk (past-store s₁ a v c e))
     stat-rule-sim (if-stat p e a b) ρ s = sim-bind (h .expr-sim e ρ s) λ v s₁. sim-need _ p s₁ λ t. sim-branch t (block-sim a ρ s₁) (block-sim b ρ s₁)
     stat-rule-sim (while p e b) ρ s = rounds-sim le _ _ (suc-le-suc (le .fuel-le)) _ _ _ _ ((λ s. h .expr-sim e ρ s), (λ s. block-sim b ρ s)) p s
     stat-rule-sim (call p (at q x) as′) ρ s =
@@ -254,14 +276,14 @@ level-sim {L′ = L′} le zero (suc d′) m = cut-sim le (level-self L′ d′)
 level-sim le (suc d) zero m = absurd (not-suc-le-zero m)
 level-sim le (suc d) (suc d′) m = step-sim (level-sim le d d′ (le-of-suc-le-suc m)) le
 
-run-sim : {L L′ : Limits} → L ⊑ L′ → (b : Block) → Sim (mark start) (run L b) (run L′ b)
+pub run-sim : {L L′ : Limits} → L ⊑ L′ → (b : Block) → Sim (mark start) (run L b) (run L′ b)
 run-sim {L} {L′} le b = block-sim (level-sim le (L .depth) (L′ .depth) (le .depth-le)) b empty start
 
 same-end : {A : Type 0} {w : Mark} {o o′ : Outcome A} → Sim w o o′ → NotLimited o → o′ ≡ o
 same-end (same h) n = refl
 same-end (cut t h) n = absurd n
 
-begins-is : {a b : List ℤ} → Begins a b → (m : List ℤ) × (b ≡ a ++ m)
+pub begins-is : {a b : List ℤ} → Begins a b → (m : List ℤ) × (b ≡ a ++ m)
 begins-is {a} all = ([], sym (append-nil a))
 begins-is {a} (more n h) = let r = begins-is h in (r .0 ++ n ∷ [], ap {B = List ℤ} (λ l. l ++ n ∷ []) (r .1) ∙ append-assoc a (r .0) (n ∷ []))
 
