@@ -23,12 +23,12 @@ fn print_end(number: u64, place: u64, report: Report) {
     lines::text(b"\n");
 }
 
-// The refusals are 1 to 9.
+// The refusals are 1 to 10.
 fn print(report: Report, output: &[i64]) {
     let answer = report.answer;
     let number = answers::number_of(answer);
     let place = answers::place_of(answer);
-    if 1 <= number && number <= 9 {
+    if 1 <= number && number <= 10 {
         print_refusal(number, place);
     } else {
         lines::number_lines(output, report.numbers);

@@ -16,7 +16,8 @@ same-length-2 : tie.Need-same-length-2
 same-length-2 c = search needs
 
 returns : tie.Need-returns
-returns c = both-passes _ _ _ _ _ _ _ _ (c .before .before .before .before .before .before .before .give-scopes .ensures) (c .before .before .judge .ensures)
+returns c =
+    both-passes _ _ _ _ _ _ _ _ (c .before .before .before .before .before .before .before .give-scopes .ensures) (c .before .before .judge .ensures)
 
 pub first-refused-spec : {M : Type 1} → statement M
 first-refused-spec = tie.close (tie.spec give-scopes-requires judge-requires same-length same-length-2 returns)

@@ -15,7 +15,13 @@ place-at-requires c κs = search needs
 
 returns : tie.Need-returns
 unfolding binderPlace
-returns c = rw (← c .before .before .before .kind-at .ensures, ← c .before .before .binds-of .ensures, eq-eqb _ 2 (c .before .if1 .taken), ← c .place-at .ensures)
+returns c =
+    rw (
+      ← c .before .before .before .kind-at .ensures,
+      ← c .before .before .binds-of .ensures,
+      eq-eqb _ 2 (c .before .if1 .taken),
+      ← c .place-at .ensures,
+    )
 
 child-at-requires : tie.Need-child-at-requires
 child-at-requires c κs = search needs
@@ -25,7 +31,14 @@ place-at-requires-2 c κs = search needs
 
 returns-2 : tie.Need-returns-2
 unfolding binderPlace
-returns-2 c = rw (← c .before .before .before .before .kind-at .ensures, ← c .before .before .before .binds-of .ensures, ne-eqb _ 2 (c .before .before .if1 .left), ← c .before .child-at .ensures, ← c .place-at2 .ensures)
+returns-2 c =
+    rw (
+      ← c .before .before .before .before .kind-at .ensures,
+      ← c .before .before .before .binds-of .ensures,
+      ne-eqb _ 2 (c .before .before .if1 .left),
+      ← c .before .child-at .ensures,
+      ← c .place-at2 .ensures,
+    )
 
 pub binder-place-spec : {M : Type 1} → statement M
 binder-place-spec =

@@ -21,7 +21,13 @@ returns-4 c = rw (c .match .keys2)
 
 returns-5 : tie.Need-returns-5
 unfolding bindsOf
-returns-5 c = rw (le-ltb _ 2 (c .before .before .if1 .left), le-ltb _ 8 (c .before .if2 .left), ne-eqb _ 13 (c .match .rest .0 .1), ne-eqb _ 14 (c .match .rest .1))
+returns-5 c =
+    rw (
+      le-ltb _ 2 (c .before .before .if1 .left),
+      le-ltb _ 8 (c .before .if2 .left),
+      ne-eqb _ 13 (c .match .rest .0 .1),
+      ne-eqb _ 14 (c .match .rest .1),
+    )
 
 pub binds-of-spec : {M : Type 1} → statement M
 binds-of-spec = tie.close (tie.spec returns returns-2 returns-3 returns-4 returns-5)

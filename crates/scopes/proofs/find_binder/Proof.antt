@@ -29,7 +29,15 @@ same-name-requires c κs = search needs
 
 returns-2 : tie.Need-returns-2 Inv-loop μ-loop
 unfolding findFrom sameName
-returns-2 c = rw (← c .before .before .before .before .before .loop .inv, find-more _ (c .before .before .before .before .loop-test .taken), ne-eqb _ 0 (c .before .before .before .if1 .left), ← c .before .before .binder-place .ensures, ← c .before .same-name .ensures, c .if2 .taken)
+returns-2 c =
+    rw (
+      ← c .before .before .before .before .before .loop .inv,
+      find-more _ (c .before .before .before .before .loop-test .taken),
+      ne-eqb _ 0 (c .before .before .before .if1 .left),
+      ← c .before .before .binder-place .ensures,
+      ← c .before .same-name .ensures,
+      c .if2 .taken,
+    )
 
 env-at-requires : tie.Need-env-at-requires Inv-loop μ-loop
 env-at-requires c κs = search needs
@@ -42,7 +50,15 @@ loop-less c = search needs
 
 loop-again : tie.Need-loop-again Inv-loop μ-loop
 unfolding findFrom sameName
-loop-again c = rw (← c .before .before .before .before .before .before .loop .inv) (rw (find-more _ (c .before .before .before .before .before .loop-test .taken), ne-eqb _ 0 (c .before .before .before .before .if1 .left), ← c .before .before .before .binder-place .ensures, ← c .before .before .same-name .ensures, c .before .if2 .left, c .env-at .ensures .0))
+loop-again c =
+    rw (← c .before .before .before .before .before .before .loop .inv) (rw (
+      find-more _ (c .before .before .before .before .before .loop-test .taken),
+      ne-eqb _ 0 (c .before .before .before .before .if1 .left),
+      ← c .before .before .before .binder-place .ensures,
+      ← c .before .before .same-name .ensures,
+      c .before .if2 .left,
+      c .env-at .ensures .0,
+    ))
 
 returns-3 : tie.Need-returns-3 Inv-loop μ-loop
 unfolding findFrom sameName

@@ -9,7 +9,8 @@ use Rattle.scopes.proofs.give_scopes.Statement.{statement}
 use Rattle.scopes.proofs.give_scopes.Tie as tie
 
 abbrev Inv-loop : tie.InvT-loop
-Inv-loop text tree scopes₀ count i₀ row₀ scopes i row = (scopesFrom text tree (count - i) i row scopes ≡ scopesOf text tree count scopes₀) × (i ≤ count) × (length scopes ≡ length scopes₀)
+Inv-loop text tree scopes₀ count i₀ row₀ scopes i row =
+    (scopesFrom text tree (count - i) i row scopes ≡ scopesOf text tree count scopes₀) × (i ≤ count) × (length scopes ≡ length scopes₀)
 
 abbrev μ-loop : tie.MeasureT-loop
 μ-loop text tree scopes₀ count i₀ row₀ scopes i row = count - i
@@ -46,7 +47,27 @@ loop-less c = search needs
 
 loop-again : tie.Need-loop-again Inv-loop μ-loop
 unfolding scopeStep
-loop-again c = (rw (← c .before .before .before .before .before .before .before .before .before .before .before .before .before .before .before .before .loop .inv .0) (rw (scopes-more _ _ (c .before .before .before .before .before .before .before .before .before .before .before .before .before .before .before .loop-test .taken), ← c .before .before .before .before .before .before .before .before .before .before .before .before .before .inner .ensures, ← c .before .before .before .before .before .before .before .before .before .before .before .outer .ensures, ← c .before .before .before .before .before .before .before .before .before .before .row-after .ensures, ← c .before .before .before .before .before .before .before .before .child-at .ensures, ← c .before .before .before .next-at .ensures, c .before .before .give-scope2 .ensures, c .before .before .before .before .before .before .before .give-scope .ensures)), omega arith, omega (arith, c .before .before .before .before .before .before .before .give-scope .kept, c .before .before .give-scope2 .kept, c .before .before .before .before .before .before .before .before .before .before .before .before .before .before .before .before .loop .inv .2))
+loop-again c = (
+  rw (← c .before .before .before .before .before .before .before .before .before .before .before .before .before .before .before .before .loop .inv
+      .0) (rw (
+        scopes-more _ _ (c .before .before .before .before .before .before .before .before .before .before .before .before .before .before .before
+            .loop-test .taken),
+        ← c .before .before .before .before .before .before .before .before .before .before .before .before .before .inner .ensures,
+        ← c .before .before .before .before .before .before .before .before .before .before .before .outer .ensures,
+        ← c .before .before .before .before .before .before .before .before .before .before .row-after .ensures,
+        ← c .before .before .before .before .before .before .before .before .child-at .ensures,
+        ← c .before .before .before .next-at .ensures,
+        c .before .before .give-scope2 .ensures,
+        c .before .before .before .before .before .before .before .give-scope .ensures,
+      )),
+  omega arith,
+  omega (
+    arith,
+    c .before .before .before .before .before .before .before .give-scope .kept,
+    c .before .before .give-scope2 .kept,
+    c .before .before .before .before .before .before .before .before .before .before .before .before .before .before .before .before .loop .inv .2,
+  ),
+)
 
 same-length : tie.Need-same-length Inv-loop μ-loop
 same-length c = search needs

@@ -22,7 +22,13 @@ add-result c = omega (arith, c .before .before .role-in .ensures .1, c .before .
 
 returns : tie.Need-returns
 unfolding innerAt
-returns c = rw (← c .before .before .before .kind-at .ensures, ← c .before .before .role-in .ensures .0, ← c .before .row-of .ensures, eq-eqb _ 1 (c .if1 .taken))
+returns c =
+    rw (
+      ← c .before .before .before .kind-at .ensures,
+      ← c .before .before .role-in .ensures .0,
+      ← c .before .row-of .ensures,
+      eq-eqb _ 1 (c .if1 .taken),
+    )
 
 mul-result-2 : tie.Need-mul-result-2
 mul-result-2 c = omega (arith, c .before .before .role-in .ensures .1)
@@ -35,7 +41,14 @@ add-result-2 c = omega (arith, c .before .before .before .role-in .ensures .1, c
 
 returns-2 : tie.Need-returns-2
 unfolding innerAt
-returns-2 c = rw (← c .before .before .before .before .kind-at .ensures, ← c .before .before .before .role-in .ensures .0, ← c .before .before .row-of .ensures, ne-eqb _ 1 (c .before .if1 .left), ← c .env-at .ensures .0)
+returns-2 c =
+    rw (
+      ← c .before .before .before .before .kind-at .ensures,
+      ← c .before .before .before .role-in .ensures .0,
+      ← c .before .before .row-of .ensures,
+      ne-eqb _ 1 (c .before .if1 .left),
+      ← c .env-at .ensures .0,
+    )
 
 pub inner-spec : {M : Type 1} → statement M
 inner-spec =

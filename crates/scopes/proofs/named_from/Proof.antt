@@ -29,7 +29,15 @@ same-name-requires c κs = search needs
 
 returns-2 : tie.Need-returns-2 Inv-loop μ-loop
 unfolding namedFrom sameName
-returns-2 c = rw (← c .before .before .before .before .before .loop .inv, named-more _ (c .before .before .before .before .loop-test .taken), ne-eqb _ 0 (c .before .before .before .if1 .left), ← c .before .before .place-at .ensures, ← c .before .same-name .ensures, c .if2 .taken)
+returns-2 c =
+    rw (
+      ← c .before .before .before .before .before .loop .inv,
+      named-more _ (c .before .before .before .before .loop-test .taken),
+      ne-eqb _ 0 (c .before .before .before .if1 .left),
+      ← c .before .before .place-at .ensures,
+      ← c .before .same-name .ensures,
+      c .if2 .taken,
+    )
 
 behind-at-requires : tie.Need-behind-at-requires Inv-loop μ-loop
 behind-at-requires c κs = search needs
@@ -42,7 +50,17 @@ loop-less c = search needs
 
 loop-again : tie.Need-loop-again Inv-loop μ-loop
 unfolding namedFrom sameName
-loop-again c = rw (← c .before .before .before .before .before .before .loop .inv) (rw (named-more _ (c .before .before .before .before .before .loop-test .taken), ne-eqb _ 0 (c .before .before .before .before .if1 .left), ← c .before .before .before .place-at .ensures, ← c .before .before .same-name .ensures, c .before .if2 .left, c .behind-at .ensures))
+loop-again c =
+    rw (← c .before .before .before .before .before .before .loop .inv) (
+    rw (
+      named-more _ (c .before .before .before .before .before .loop-test .taken),
+      ne-eqb _ 0 (c .before .before .before .before .if1 .left),
+      ← c .before .before .before .place-at .ensures,
+      ← c .before .before .same-name .ensures,
+      c .before .if2 .left,
+      c .behind-at .ensures,
+    )
+    )
 
 returns-3 : tie.Need-returns-3 Inv-loop μ-loop
 unfolding namedFrom sameName

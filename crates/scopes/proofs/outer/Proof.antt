@@ -36,7 +36,14 @@ add-result-2 c = omega (arith, c .before .before .before .before .before .before
 
 returns-3 : tie.Need-returns-3
 unfolding outerAt
-returns-3 c = rw (← c .before .before .before .before .kind-at .ensures, ← c .before .before .before .binds-of .ensures, ne-eqb _ 0 (c .before .before .if1 .left), ne-eqb _ 1 (c .before .if2 .left), ← c .shown .ensures .0)
+returns-3 c =
+    rw (
+      ← c .before .before .before .before .kind-at .ensures,
+      ← c .before .before .before .binds-of .ensures,
+      ne-eqb _ 0 (c .before .before .if1 .left),
+      ne-eqb _ 1 (c .before .if2 .left),
+      ← c .shown .ensures .0,
+    )
 
 pub outer-spec : {M : Type 1} → statement M
 outer-spec =

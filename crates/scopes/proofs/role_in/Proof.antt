@@ -30,7 +30,17 @@ returns-6 c = (rw (c .match .keys4), omega arith)
 
 returns-7 : tie.Need-returns-7
 unfolding roleIn
-returns-7 c = (rw (le-ltb _ 2 (c .before .before .if1 .left), le-ltb _ 8 (c .before .if2 .left), ne-eqb _ 9 (c .match .rest .0 .0 .0 .1), ne-eqb _ 12 (c .match .rest .0 .0 .1), ne-eqb _ 25 (c .match .rest .0 .1), ne-eqb _ 23 (c .match .rest .1)), omega arith)
+returns-7 c = (
+  rw (
+    le-ltb _ 2 (c .before .before .if1 .left),
+    le-ltb _ 8 (c .before .if2 .left),
+    ne-eqb _ 9 (c .match .rest .0 .0 .0 .1),
+    ne-eqb _ 12 (c .match .rest .0 .0 .1),
+    ne-eqb _ 25 (c .match .rest .0 .1),
+    ne-eqb _ 23 (c .match .rest .1),
+  ),
+  omega arith,
+)
 
 pub role-in-spec : {M : Type 1} → statement M
 role-in-spec =

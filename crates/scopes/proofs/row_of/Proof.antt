@@ -25,7 +25,14 @@ returns-5 c = rw (c .match .keys5)
 
 returns-6 : tie.Need-returns-6
 unfolding rowOf
-returns-6 c = rw (ne-eqb _ 4 (c .match .rest .0 .0 .0 .0 .1), ne-eqb _ 7 (c .match .rest .0 .0 .0 .1), ne-eqb _ 3 (c .match .rest .0 .0 .1), ne-eqb _ 6 (c .match .rest .0 .1), ne-eqb _ 24 (c .match .rest .1))
+returns-6 c =
+    rw (
+      ne-eqb _ 4 (c .match .rest .0 .0 .0 .0 .1),
+      ne-eqb _ 7 (c .match .rest .0 .0 .0 .1),
+      ne-eqb _ 3 (c .match .rest .0 .0 .1),
+      ne-eqb _ 6 (c .match .rest .0 .1),
+      ne-eqb _ 24 (c .match .rest .1),
+    )
 
 pub row-of-spec : {M : Type 1} → statement M
 row-of-spec = tie.close (tie.spec returns returns-2 returns-3 returns-4 returns-5 returns-6)

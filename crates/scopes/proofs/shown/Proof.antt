@@ -27,11 +27,32 @@ env-at-requires c κs = search needs
 
 returns-2 : tie.Need-returns-2
 unfolding shownAt sameName
-returns-2 c = (rw (ne-eqb _ 0 (c .before .before .before .before .before .before .if1 .left), ← c .before .before .before .before .before .place-at .ensures, ← c .before .before .before .before .child-at .ensures, ← c .before .before .before .place-at2 .ensures, ← c .before .before .same-name .ensures, c .before .if2 .taken, ← c .env-at .ensures .0), c .env-at .ensures .1)
+returns-2 c = (
+  rw (
+    ne-eqb _ 0 (c .before .before .before .before .before .before .if1 .left),
+    ← c .before .before .before .before .before .place-at .ensures,
+    ← c .before .before .before .before .child-at .ensures,
+    ← c .before .before .before .place-at2 .ensures,
+    ← c .before .before .same-name .ensures,
+    c .before .if2 .taken,
+    ← c .env-at .ensures .0,
+  ),
+  c .env-at .ensures .1,
+)
 
 returns-3 : tie.Need-returns-3
 unfolding shownAt sameName
-returns-3 c = (rw (ne-eqb _ 0 (c .before .before .before .before .before .if1 .left), ← c .before .before .before .before .place-at .ensures, ← c .before .before .before .child-at .ensures, ← c .before .before .place-at2 .ensures, ← c .before .same-name .ensures, c .if2 .left), c .before .before .before .before .before .before .before .before .before .pre)
+returns-3 c = (
+  rw (
+    ne-eqb _ 0 (c .before .before .before .before .before .if1 .left),
+    ← c .before .before .before .before .place-at .ensures,
+    ← c .before .before .before .child-at .ensures,
+    ← c .before .before .place-at2 .ensures,
+    ← c .before .same-name .ensures,
+    c .if2 .left,
+  ),
+  c .before .before .before .before .before .before .before .before .before .pre,
+)
 
 pub shown-spec : {M : Type 1} → statement M
 shown-spec =

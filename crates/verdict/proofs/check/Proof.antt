@@ -29,7 +29,7 @@ same-length-5 : tie.Need-same-length-5
 same-length-5 c = search needs
 
 returns-2 : tie.Need-returns-2
-returns-2 c = 
+returns-2 c =
     let T = c .before .tables-suffice in
     Check.too-small (c .before .before .before .before .before .before .before .if1 .left) (sym (T .ensures) ∙ not-true (T .result) (c .if2 .taken))
 
@@ -40,12 +40,19 @@ enum-known-outcome : tie.Need-enum-known-outcome
 enum-known-outcome c = search needs
 
 judge-tree-requires : tie.Need-judge-tree-requires
-judge-tree-requires c κs = 
-    let T = c .before .before .before .before .before .before .before .before .before .before .before .before .before .before .before .before .before .tables-suffice in
+judge-tree-requires c κs =
+    let T = c .before .before .before .before .before .before .before .before .before .before .before .before .before .before .before .before .before
+    .tables-suffice in
     let R = c .before .before .before .before .before .before .before .before .before .before .before .before .read in
-    let short = c .before .before .before .before .before .before .before .before .before .before .before .before .before .before .before .before .before .before .before .before .before .before .before .if1 .left in
-    let room = sym (T .ensures) ∙ not-false (T .result) (c .before .before .before .before .before .before .before .before .before .before .before .before .before .before .before .before .if2 .left) in
-    fits _ _ _ _ (c .before .before .before .before .before .before .before .before .before .before .before .before .before .before .before .before .before .before .before .before .before .before .before .before .before .before .before .before .before .before .args .scopes .now) (c .before .before .before .before .before .before .before .before .before .before .before .before .before .before .before .before .before .before .before .before .before .before .before .before .before .before .before .before .before .before .args .notes .now) short room (R .ensures) (c .before .before .before .before .outcome .given .1) (R .kept .1 .0)
+    let short = c .before .before .before .before .before .before .before .before .before .before .before .before .before .before .before .before
+    .before .before .before .before .before .before .before .if1 .left in
+    let room = sym (T .ensures) ∙ not-false (T .result) (c .before .before .before .before .before .before .before .before .before .before .before
+    .before .before .before .before .before .if2 .left) in
+    fits _ _ _ _ (c .before .before .before .before .before .before .before .before .before .before .before .before .before .before .before .before
+    .before .before .before .before .before .before .before .before .before .before .before .before .before .before .args .scopes .now) (c .before
+    .before .before .before .before .before .before .before .before .before .before .before .before .before .before .before .before .before .before
+    .before .before .before .before .before .before .before .before .before .before .before .args .notes .now) short room (R .ensures) (c .before
+    .before .before .before .outcome .given .1) (R .kept .1 .0)
 
 enum-known-outcome-2 : tie.Need-enum-known-outcome-2
 enum-known-outcome-2 c = search needs
@@ -75,12 +82,17 @@ same-length-10 : tie.Need-same-length-10
 same-length-10 c = search needs
 
 returns-3 : tie.Need-returns-3
-returns-3 c = 
-    let T = c .before .before .before .before .before .before .before .before .before .before .before .before .before .before .before .before .before .before .before .before .before .before .before .before .tables-suffice in
-    let R = c .before .before .before .before .before .before .before .before .before .before .before .before .before .before .before .before .before .before .before .read in
-    let short = c .before .before .before .before .before .before .before .before .before .before .before .before .before .before .before .before .before .before .before .before .before .before .before .before .before .before .before .before .before .before .if1 .left in
-    let room = sym (T .ensures) ∙ not-false (T .result) (c .before .before .before .before .before .before .before .before .before .before .before .before .before .before .before .before .before .before .before .before .before .before .before .if2 .left) in
-    tree-promised _ _ _ _ _ _ short room (R .ensures) (c .before .before .before .before .before .before .before .before .before .before .before .outcome .given .1) (c .before .before .before .before .before .before .judge-tree .ensures)
+returns-3 c =
+    let T = c .before .before .before .before .before .before .before .before .before .before .before .before .before .before .before .before .before
+    .before .before .before .before .before .before .before .tables-suffice in
+    let R = c .before .before .before .before .before .before .before .before .before .before .before .before .before .before .before .before .before
+    .before .before .read in
+    let short = c .before .before .before .before .before .before .before .before .before .before .before .before .before .before .before .before
+    .before .before .before .before .before .before .before .before .before .before .before .before .before .before .if1 .left in
+    let room = sym (T .ensures) ∙ not-false (T .result) (c .before .before .before .before .before .before .before .before .before .before .before
+    .before .before .before .before .before .before .before .before .before .before .before .before .if2 .left) in
+    tree-promised _ _ _ _ _ _ short room (R .ensures) (c .before .before .before .before .before .before .before .before .before .before .before
+    .outcome .given .1) (c .before .before .before .before .before .before .judge-tree .ensures)
 
 same-length-11 : tie.Need-same-length-11
 same-length-11 c = search needs
@@ -98,12 +110,18 @@ same-length-15 : tie.Need-same-length-15
 same-length-15 c = search needs
 
 returns-4 : tie.Need-returns-4
-returns-4 c = 
-    let T = c .before .before .before .before .before .before .before .before .before .before .before .before .before .before .before .before .before .before .before .before .before .before .before .tables-suffice in
-    let R = c .before .before .before .before .before .before .before .before .before .before .before .before .before .before .before .before .before .before .read in
-    let short = c .before .before .before .before .before .before .before .before .before .before .before .before .before .before .before .before .before .before .before .before .before .before .before .before .before .before .before .before .before .if1 .left in
-    let room = sym (T .ensures) ∙ not-false (T .result) (c .before .before .before .before .before .before .before .before .before .before .before .before .before .before .before .before .before .before .before .before .before .before .if2 .left) in
-    none-promised _ _ _ _ _ _ short room (R .ensures) (c .before .before .before .before .before .before .before .before .before .before .outcome2 .given .1) (c .unread-at .ensures) (c .before .before .before .before .before .before .before .clear-words .ensures) (c .before .before .before .clear-words2 .ensures)
+returns-4 c =
+    let T = c .before .before .before .before .before .before .before .before .before .before .before .before .before .before .before .before .before
+    .before .before .before .before .before .before .tables-suffice in
+    let R = c .before .before .before .before .before .before .before .before .before .before .before .before .before .before .before .before .before
+    .before .read in
+    let short = c .before .before .before .before .before .before .before .before .before .before .before .before .before .before .before .before
+    .before .before .before .before .before .before .before .before .before .before .before .before .before .if1 .left in
+    let room = sym (T .ensures) ∙ not-false (T .result) (c .before .before .before .before .before .before .before .before .before .before .before
+    .before .before .before .before .before .before .before .before .before .before .before .if2 .left) in
+    none-promised _ _ _ _ _ _ short room (R .ensures) (c .before .before .before .before .before .before .before .before .before .before .outcome2
+    .given .1) (c .unread-at .ensures) (c .before .before .before .before .before .before .before .clear-words .ensures) (c .before .before .before
+    .clear-words2 .ensures)
 
 pub check-spec : {M : Type 1} → statement M
 check-spec =

@@ -17,7 +17,8 @@ slice-reshare-prefix-verdict-at : tie.Need-slice-reshare-prefix-verdict-at
 slice-reshare-prefix-verdict-at c = search needs
 
 slice-aggregate-verdict-at : tie.Need-slice-aggregate-verdict-at
-slice-aggregate-verdict-at c = part-long 4096 (c .before .before .before .before .before .before .before .before .before .before .before .before .before .args .tree .now) (search needs)
+slice-aggregate-verdict-at c =
+    part-long 4096 (c .before .before .before .before .before .before .before .before .before .before .before .before .before .args .tree .now) (search needs)
 
 verdict-at-requires : tie.Need-verdict-at-requires
 verdict-at-requires c κs = search needs
@@ -47,7 +48,11 @@ same-length-6 : tie.Need-same-length-6
 same-length-6 c = search needs
 
 returns-2 : tie.Need-returns-2
-returns-2 c = goes (c .before .before .before .before .before .before .before .before .before .before .before .settle .ensures) (c .before .before .before .before .before .verdict-at .ensures) (c .before .before .before .before .if1 .left) (c .before .before .clear-words .ensures)
+returns-2 c =
+    goes (c .before .before .before .before .before .before .before .before .before .before .before .settle .ensures)
+    (c .before .before .before .before .before .verdict-at .ensures)
+    (c .before .before .before .before .if1 .left)
+    (c .before .before .clear-words .ensures)
 
 pub judge-tree-spec : {M : Type 1} → statement M
 judge-tree-spec =

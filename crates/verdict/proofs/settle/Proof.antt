@@ -34,23 +34,33 @@ clear-words-requires-4 : tie.Need-clear-words-requires-4
 clear-words-requires-4 c κs = search needs
 
 same-length : tie.Need-same-length
-same-length c = 
-    let S = c .before .before .before .before .before .before .before .before .before .before .before .before .before .before .before .before .before .before .before .before .before .clear-words in
+same-length c =
+    let S = c .before .before .before .before .before .before .before .before .before .before .before .before .before .before .before .before .before
+    .before .before .before .before .clear-words in
     let J = c .before .before .before .before .before .before .before .before .before .before .before .before .first-refused in
-    c .before .before .before .before .before .before .clear-words3 .kept .0 ∙ length-front (S .last .0) (J .last .1 .1 .0) 4096 (J .kept .1 .1 .0) ∙ S .kept .0
+    c .before .before .before .before .before .before .clear-words3 .kept .0 ∙ length-front (S .last .0) (J .last .1 .1 .0) 4096 (J .kept .1 .1 .0) ∙
+    S .kept .0
 
 same-length-2 : tie.Need-same-length-2
-same-length-2 c = 
-    let N = c .before .before .before .before .before .before .before .before .before .before .before .before .before .before .before .before .before .clear-words2 in
+same-length-2 c =
+    let N = c .before .before .before .before .before .before .before .before .before .before .before .before .before .before .before .before .before
+    .clear-words2 in
     let J = c .before .before .before .before .before .before .before .before .before .before .before .before .first-refused in
     c .before .before .clear-words4 .kept .0 ∙ length-front (N .last .0) (J .last .1 .1 .1 .0) 4096 (J .kept .1 .1 .1 .0) ∙ N .kept .0
 
 returns : tie.Need-returns
-returns c = 
-    let S = c .before .before .before .before .before .before .before .before .before .before .before .before .before .before .before .before .before .before .before .before .before .clear-words in
-    let N = c .before .before .before .before .before .before .before .before .before .before .before .before .before .before .before .before .before .clear-words2 in
+returns c =
+    let S = c .before .before .before .before .before .before .before .before .before .before .before .before .before .before .before .before .before
+    .before .before .before .before .clear-words in
+    let N = c .before .before .before .before .before .before .before .before .before .before .before .before .before .before .before .before .before
+    .clear-words2 in
     let J = c .before .before .before .before .before .before .before .before .before .before .before .before .first-refused in
-    settled 4096 _ _ _ _ _ _ (S .last .0) (N .last .0) (J .last .1 .1 .0) (J .last .1 .1 .1 .0) _ _ (c .before .before .before .before .before .before .before .before .before .before .before .before .before .before .before .before .before .before .before .before .before .before .before .before .before .before .before .pre .1) (c .before .before .before .before .before .before .before .before .before .before .before .before .before .before .before .before .before .before .before .before .before .before .before .before .before .before .before .pre .2) (S .ensures) (N .ensures) (J .ensures) (J .kept .1 .1 .0) (J .kept .1 .1 .1 .0) (c .before .before .before .before .before .before .clear-words3 .ensures) (c .before .before .clear-words4 .ensures)
+    settled 4096 _ _ _ _ _ _ (S .last .0) (N .last .0) (J .last .1 .1 .0) (J .last .1 .1 .1 .0) _ _ (c .before .before .before .before .before .before
+    .before .before .before .before .before .before .before .before .before .before .before .before .before .before .before .before .before .before
+    .before .before .before .pre .1) (c .before .before .before .before .before .before .before .before .before .before .before .before .before
+    .before .before .before .before .before .before .before .before .before .before .before .before .before .before .pre .2) (S .ensures) (N .ensures)
+    (J .ensures) (J .kept .1 .1 .0) (J .kept .1 .1 .1 .0) (c .before .before .before .before .before .before .clear-words3 .ensures) (c .before
+    .before .clear-words4 .ensures)
 
 pub settle-spec : {M : Type 1} → statement M
 settle-spec =

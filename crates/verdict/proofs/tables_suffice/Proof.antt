@@ -13,13 +13,33 @@ returns-3 : tie.Need-returns-3
 returns-3 c = rw (le-leb _ _ (c .before .before .if1 .left), le-leb _ _ (c .before .if2 .left), lt-leb _ _ (c .if3 .taken))
 
 returns-4 : tie.Need-returns-4
-returns-4 c = rw (le-leb _ _ (c .before .before .before .if1 .left), le-leb _ _ (c .before .before .if2 .left), le-leb _ _ (c .before .if3 .left), lt-leb _ _ (c .if4 .taken))
+returns-4 c =
+    rw (
+      le-leb _ _ (c .before .before .before .if1 .left),
+      le-leb _ _ (c .before .before .if2 .left),
+      le-leb _ _ (c .before .if3 .left),
+      lt-leb _ _ (c .if4 .taken),
+    )
 
 returns-5 : tie.Need-returns-5
-returns-5 c = rw (le-leb _ _ (c .before .before .before .before .if1 .left), le-leb _ _ (c .before .before .before .if2 .left), le-leb _ _ (c .before .before .if3 .left), le-leb _ _ (c .before .if4 .left), lt-leb _ _ (c .if5 .taken))
+returns-5 c =
+    rw (
+      le-leb _ _ (c .before .before .before .before .if1 .left),
+      le-leb _ _ (c .before .before .before .if2 .left),
+      le-leb _ _ (c .before .before .if3 .left),
+      le-leb _ _ (c .before .if4 .left),
+      lt-leb _ _ (c .if5 .taken),
+    )
 
 returns-6 : tie.Need-returns-6
-returns-6 c = rw (le-leb _ _ (c .before .before .before .before .if1 .left), le-leb _ _ (c .before .before .before .if2 .left), le-leb _ _ (c .before .before .if3 .left), le-leb _ _ (c .before .if4 .left), le-leb _ _ (c .if5 .left))
+returns-6 c =
+    rw (
+      le-leb _ _ (c .before .before .before .before .if1 .left),
+      le-leb _ _ (c .before .before .before .if2 .left),
+      le-leb _ _ (c .before .before .if3 .left),
+      le-leb _ _ (c .before .if4 .left),
+      le-leb _ _ (c .if5 .left),
+    )
 
 pub tables-suffice-spec : {M : Type 1} → statement M
 tables-suffice-spec = tie.close (tie.spec returns returns-2 returns-3 returns-4 returns-5 returns-6)

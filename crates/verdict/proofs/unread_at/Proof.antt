@@ -22,7 +22,13 @@ returns-4 c = rw (c .match .keys4)
 
 returns-5 : tie.Need-returns-5
 unfolding unread
-returns-5 c = rw (ne-eqb _ 4 (c .match .rest .0 .0 .0 .1), ne-eqb _ 5 (c .match .rest .0 .0 .1), ne-eqb _ 6 (c .match .rest .0 .1), ne-eqb _ 7 (c .match .rest .1))
+returns-5 c =
+    rw (
+      ne-eqb _ 4 (c .match .rest .0 .0 .0 .1),
+      ne-eqb _ 5 (c .match .rest .0 .0 .1),
+      ne-eqb _ 6 (c .match .rest .0 .1),
+      ne-eqb _ 7 (c .match .rest .1),
+    )
 
 pub unread-at-spec : {M : Type 1} → statement M
 unread-at-spec = tie.close (tie.spec returns returns-2 returns-3 returns-4 returns-5)

@@ -25,7 +25,14 @@ entry-requires c κs = search needs
 
 returns-2 : tie.Need-returns-2 Inv-loop μ-loop
 unfolding fineFrom
-returns-2 c = rw (← c .before .before .before .before .loop .inv, fine-more _ (c .before .before .before .loop-test .taken), ne-eqb _ 0 (c .before .before .if1 .left), ← c .before .entry .ensures, eq-eqb _ 0 (c .if2 .taken))
+returns-2 c =
+    rw (
+      ← c .before .before .before .before .loop .inv,
+      fine-more _ (c .before .before .before .loop-test .taken),
+      ne-eqb _ 0 (c .before .before .if1 .left),
+      ← c .before .entry .ensures,
+      eq-eqb _ 0 (c .if2 .taken),
+    )
 
 next-at-requires : tie.Need-next-at-requires Inv-loop μ-loop
 next-at-requires c κs = search needs
@@ -38,7 +45,14 @@ loop-less c = search needs
 
 loop-again : tie.Need-loop-again Inv-loop μ-loop
 unfolding fineFrom
-loop-again c = rw (← c .before .before .before .before .before .loop .inv) (rw (fine-more _ (c .before .before .before .before .loop-test .taken), ne-eqb _ 0 (c .before .before .before .if1 .left), ← c .before .before .entry .ensures, ne-eqb _ 0 (c .before .if2 .left), c .next-at .ensures))
+loop-again c =
+    rw (← c .before .before .before .before .before .loop .inv) (rw (
+      fine-more _ (c .before .before .before .before .loop-test .taken),
+      ne-eqb _ 0 (c .before .before .before .if1 .left),
+      ← c .before .before .entry .ensures,
+      ne-eqb _ 0 (c .before .if2 .left),
+      c .next-at .ensures,
+    ))
 
 returns-3 : tie.Need-returns-3 Inv-loop μ-loop
 unfolding fineFrom

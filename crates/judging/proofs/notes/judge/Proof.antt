@@ -9,7 +9,8 @@ use Rattle.judging.proofs.notes.judge.Statement.{statement}
 use Rattle.judging.proofs.notes.judge.Tie as tie
 
 abbrev Inv-loop : tie.InvT-loop
-Inv-loop text tree scopes notes₀ count i₀ refused₀ notes i refused = (judgeDown text tree scopes i refused notes ≡ judgeDown text tree scopes count 0 notes₀) × (i ≤ count) × (length notes ≡ length notes₀)
+Inv-loop text tree scopes notes₀ count i₀ refused₀ notes i refused =
+    (judgeDown text tree scopes i refused notes ≡ judgeDown text tree scopes count 0 notes₀) × (i ≤ count) × (length notes ≡ length notes₀)
 
 abbrev μ-loop : tie.MeasureT-loop
 μ-loop text tree scopes notes₀ count i₀ refused₀ notes i refused = i
@@ -33,7 +34,16 @@ loop-less : tie.Need-loop-less Inv-loop μ-loop
 loop-less c = search needs
 
 loop-again : tie.Need-loop-again Inv-loop μ-loop
-loop-again c = (rw (← c .before .before .before .before .before .before .before .before .loop .inv .0) (rw (judge-more _ (c .before .before .before .before .before .before .before .loop-test .taken), ← c .before .before .before .before .before .note-of .ensures, c .before .before .before .put .ensures, c .answer-after .ensures)), omega arith, omega (arith, c .before .before .before .put .kept, c .before .before .before .before .before .before .before .before .loop .inv .2))
+loop-again c = (
+  rw (← c .before .before .before .before .before .before .before .before .loop .inv .0) (rw (
+    judge-more _ (c .before .before .before .before .before .before .before .loop-test .taken),
+    ← c .before .before .before .before .before .note-of .ensures,
+    c .before .before .before .put .ensures,
+    c .answer-after .ensures,
+  )),
+  omega arith,
+  omega (arith, c .before .before .before .put .kept, c .before .before .before .before .before .before .before .before .loop .inv .2),
+)
 
 same-length : tie.Need-same-length Inv-loop μ-loop
 same-length c = search needs

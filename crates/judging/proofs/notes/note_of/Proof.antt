@@ -17,7 +17,14 @@ as-note-requires c κs = search needs
 
 returns : tie.Need-returns
 unfolding noteOf
-returns c = rw (← c .before .before .before .before .child-at .ensures, ← c .before .before .before .all-fine .ensures, c .before .before .if1 .taken, ← c .before .own-rule .ensures, c .as-note .ensures)
+returns c =
+    rw (
+      ← c .before .before .before .before .child-at .ensures,
+      ← c .before .before .before .all-fine .ensures,
+      c .before .before .if1 .taken,
+      ← c .before .own-rule .ensures,
+      c .as-note .ensures,
+    )
 
 returns-2 : tie.Need-returns-2
 unfolding noteOf

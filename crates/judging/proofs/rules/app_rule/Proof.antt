@@ -22,14 +22,23 @@ operate-requires c κs = search needs
 
 returns : tie.Need-returns
 unfolding appRule nineAt
-returns c = rw (← c .before .before .before .before .before .entry .ensures, ← c .before .before .before .before .next-at .ensures, eq-eqb _ 65555 (c .before .before .before .if1 .taken), ← c .before .before .place-at .ensures, ← c .before .meaning-at .ensures, c .operate .ensures)
+returns c =
+    rw (
+      ← c .before .before .before .before .before .entry .ensures,
+      ← c .before .before .before .before .next-at .ensures,
+      eq-eqb _ 65555 (c .before .before .before .if1 .taken),
+      ← c .before .before .place-at .ensures,
+      ← c .before .meaning-at .ensures,
+      c .operate .ensures,
+    )
 
 apply-requires : tie.Need-apply-requires
 apply-requires c κs = search needs
 
 returns-2 : tie.Need-returns-2
 unfolding appRule nineAt
-returns-2 c = rw (← c .before .before .before .entry .ensures, ← c .before .before .next-at .ensures, ne-eqb _ 65555 (c .before .if1 .left), c .apply .ensures)
+returns-2 c =
+    rw (← c .before .before .before .entry .ensures, ← c .before .before .next-at .ensures, ne-eqb _ 65555 (c .before .if1 .left), c .apply .ensures)
 
 pub app-rule-spec : {M : Type 1} → statement M
 app-rule-spec =

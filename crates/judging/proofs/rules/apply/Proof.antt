@@ -22,14 +22,31 @@ fit-args-requires c κs = search needs
 
 returns-2 : tie.Need-returns-2
 unfolding applied
-returns-2 c = rw (← c .before .before .before .before .before .note-kind .ensures, ← c .before .before .before .before .is-function .ensures, not-false (c .before .before .before .before .is-function .result) (c .before .before .before .if1 .left), ← c .before .before .first-part .ensures, ← c .before .fit-args .ensures, eq-eqb _ 0 (c .if2 .taken))
+returns-2 c =
+    rw (
+      ← c .before .before .before .before .before .note-kind .ensures,
+      ← c .before .before .before .before .is-function .ensures,
+      not-false (c .before .before .before .before .is-function .result) (c .before .before .before .if1 .left),
+      ← c .before .before .first-part .ensures,
+      ← c .before .fit-args .ensures,
+      eq-eqb _ 0 (c .if2 .taken),
+    )
 
 result-type-requires : tie.Need-result-type-requires
 result-type-requires c κs = search needs
 
 returns-3 : tie.Need-returns-3
 unfolding applied
-returns-3 c = rw (← c .before .before .before .before .before .before .note-kind .ensures, ← c .before .before .before .before .before .is-function .ensures, not-false (c .before .before .before .before .before .is-function .result) (c .before .before .before .before .if1 .left), ← c .before .before .before .first-part .ensures, ← c .before .before .fit-args .ensures, ne-eqb _ 0 (c .before .if2 .left), c .result-type .ensures)
+returns-3 c =
+    rw (
+      ← c .before .before .before .before .before .before .note-kind .ensures,
+      ← c .before .before .before .before .before .is-function .ensures,
+      not-false (c .before .before .before .before .before .is-function .result) (c .before .before .before .before .if1 .left),
+      ← c .before .before .before .first-part .ensures,
+      ← c .before .before .fit-args .ensures,
+      ne-eqb _ 0 (c .before .if2 .left),
+      c .result-type .ensures,
+    )
 
 pub apply-spec : {M : Type 1} → statement M
 apply-spec =

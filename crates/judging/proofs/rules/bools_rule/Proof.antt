@@ -19,11 +19,25 @@ has-kind-requires-2 c κs = search needs
 
 returns-2 : tie.Need-returns-2
 unfolding boolsRule
-returns-2 c = rw (← c .before .before .before .before .has-kind .ensures, not-false (c .before .before .before .before .has-kind .result) (c .before .before .before .if1 .left), ← c .before .before .next-at .ensures, ← c .before .has-kind2 .ensures, c .if2 .taken)
+returns-2 c =
+    rw (
+      ← c .before .before .before .before .has-kind .ensures,
+      not-false (c .before .before .before .before .has-kind .result) (c .before .before .before .if1 .left),
+      ← c .before .before .next-at .ensures,
+      ← c .before .has-kind2 .ensures,
+      c .if2 .taken,
+    )
 
 returns-3 : tie.Need-returns-3
 unfolding boolsRule
-returns-3 c = rw (← c .before .before .before .before .has-kind .ensures, not-false (c .before .before .before .before .has-kind .result) (c .before .before .before .if1 .left), ← c .before .before .next-at .ensures, ← c .before .has-kind2 .ensures, c .if2 .left)
+returns-3 c =
+    rw (
+      ← c .before .before .before .before .has-kind .ensures,
+      not-false (c .before .before .before .before .has-kind .result) (c .before .before .before .if1 .left),
+      ← c .before .before .next-at .ensures,
+      ← c .before .has-kind2 .ensures,
+      c .if2 .left,
+    )
 
 pub bools-rule-spec : {M : Type 1} → statement M
 bools-rule-spec =

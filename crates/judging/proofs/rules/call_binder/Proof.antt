@@ -16,7 +16,13 @@ is-procedure-requires c κs = search needs
 
 returns-2 : tie.Need-returns-2
 unfolding called
-returns-2 c = rw (ne-eqb _ 0 (c .before .before .before .if1 .left), ← c .before .before .kind-at .ensures, ← c .before .is-procedure .ensures, not-true (c .before .is-procedure .result) (c .if2 .taken))
+returns-2 c =
+    rw (
+      ne-eqb _ 0 (c .before .before .before .if1 .left),
+      ← c .before .before .kind-at .ensures,
+      ← c .before .is-procedure .ensures,
+      not-true (c .before .is-procedure .result) (c .if2 .taken),
+    )
 
 child-at-requires : tie.Need-child-at-requires
 child-at-requires c κs = search needs
@@ -29,11 +35,31 @@ fit-args-requires c κs = search needs
 
 returns-3 : tie.Need-returns-3
 unfolding called
-returns-3 c = rw (ne-eqb _ 0 (c .before .before .before .before .before .before .before .if1 .left), ← c .before .before .before .before .before .before .kind-at .ensures, ← c .before .before .before .before .before .is-procedure .ensures, not-false (c .before .before .before .before .before .is-procedure .result) (c .before .before .before .before .if2 .left), ← c .before .before .before .child-at .ensures, ← c .before .before .next-at .ensures, ← c .before .fit-args .ensures, eq-eqb _ 0 (c .if3 .taken))
+returns-3 c =
+    rw (
+      ne-eqb _ 0 (c .before .before .before .before .before .before .before .if1 .left),
+      ← c .before .before .before .before .before .before .kind-at .ensures,
+      ← c .before .before .before .before .before .is-procedure .ensures,
+      not-false (c .before .before .before .before .before .is-procedure .result) (c .before .before .before .before .if2 .left),
+      ← c .before .before .before .child-at .ensures,
+      ← c .before .before .next-at .ensures,
+      ← c .before .fit-args .ensures,
+      eq-eqb _ 0 (c .if3 .taken),
+    )
 
 returns-4 : tie.Need-returns-4
 unfolding called
-returns-4 c = rw (ne-eqb _ 0 (c .before .before .before .before .before .before .before .if1 .left), ← c .before .before .before .before .before .before .kind-at .ensures, ← c .before .before .before .before .before .is-procedure .ensures, not-false (c .before .before .before .before .before .is-procedure .result) (c .before .before .before .before .if2 .left), ← c .before .before .before .child-at .ensures, ← c .before .before .next-at .ensures, ← c .before .fit-args .ensures, ne-eqb _ 0 (c .if3 .left))
+returns-4 c =
+    rw (
+      ne-eqb _ 0 (c .before .before .before .before .before .before .before .if1 .left),
+      ← c .before .before .before .before .before .before .kind-at .ensures,
+      ← c .before .before .before .before .before .is-procedure .ensures,
+      not-false (c .before .before .before .before .before .is-procedure .result) (c .before .before .before .before .if2 .left),
+      ← c .before .before .before .child-at .ensures,
+      ← c .before .before .next-at .ensures,
+      ← c .before .fit-args .ensures,
+      ne-eqb _ 0 (c .if3 .left),
+    )
 
 pub call-binder-spec : {M : Type 1} → statement M
 call-binder-spec =

@@ -23,7 +23,15 @@ call-binder-requires c κs = search needs
 
 returns : tie.Need-returns
 unfolding callRule
-returns c = rw (← c .before .before .before .before .before .child-at .ensures, ← c .before .before .before .before .env-at .ensures .0, ← c .before .before .before .place-at .ensures, ← c .before .before .binder-of .ensures, ← c .before .next-at .ensures, c .call-binder .ensures)
+returns c =
+    rw (
+      ← c .before .before .before .before .before .child-at .ensures,
+      ← c .before .before .before .before .env-at .ensures .0,
+      ← c .before .before .before .place-at .ensures,
+      ← c .before .before .binder-of .ensures,
+      ← c .before .next-at .ensures,
+      c .call-binder .ensures,
+    )
 
 pub call-rule-spec : {M : Type 1} → statement M
 call-rule-spec =

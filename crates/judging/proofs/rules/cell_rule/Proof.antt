@@ -16,11 +16,25 @@ is-base-requires c κs = search needs
 
 returns : tie.Need-returns
 unfolding cellRule nineAt
-returns c = rw (← c .before .before .before .before .meaning-at .ensures, eq-eqb _ 0 (c .before .before .before .if1 .taken), ← c .before .before .kind-at .ensures, ← c .before .is-base .ensures, c .if2 .taken)
+returns c =
+    rw (
+      ← c .before .before .before .before .meaning-at .ensures,
+      eq-eqb _ 0 (c .before .before .before .if1 .taken),
+      ← c .before .before .kind-at .ensures,
+      ← c .before .is-base .ensures,
+      c .if2 .taken,
+    )
 
 returns-2 : tie.Need-returns-2
 unfolding cellRule nineAt
-returns-2 c = rw (← c .before .before .before .before .meaning-at .ensures, eq-eqb _ 0 (c .before .before .before .if1 .taken), ← c .before .before .kind-at .ensures, ← c .before .is-base .ensures, c .if2 .left)
+returns-2 c =
+    rw (
+      ← c .before .before .before .before .meaning-at .ensures,
+      eq-eqb _ 0 (c .before .before .before .if1 .taken),
+      ← c .before .before .kind-at .ensures,
+      ← c .before .is-base .ensures,
+      c .if2 .left,
+    )
 
 returns-3 : tie.Need-returns-3
 unfolding cellRule nineAt

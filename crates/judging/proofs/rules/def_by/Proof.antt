@@ -16,7 +16,13 @@ def-rule-requires c κs = search needs
 
 returns-2 : tie.Need-returns-2
 unfolding defBy
-returns-2 c = rw (le-ltb _ 2 (c .before .before .before .if1 .left), ← c .before .before .child-at .ensures, lt-ltb _ 5 (c .before .if2 .taken), c .def-rule .ensures)
+returns-2 c =
+    rw (
+      le-ltb _ 2 (c .before .before .before .if1 .left),
+      ← c .before .before .child-at .ensures,
+      lt-ltb _ 5 (c .before .if2 .taken),
+      c .def-rule .ensures,
+    )
 
 place-at-requires : tie.Need-place-at-requires
 place-at-requires c κs = search needs
@@ -29,7 +35,16 @@ cell-rule-requires c κs = search needs
 
 returns-3 : tie.Need-returns-3
 unfolding defBy
-returns-3 c = rw (le-ltb _ 2 (c .before .before .before .before .before .before .if1 .left), ← c .before .before .before .before .before .child-at .ensures, le-ltb _ 5 (c .before .before .before .before .if2 .left), eq-eqb _ 5 (c .before .before .before .if3 .taken), ← c .before .before .place-at .ensures, ← c .before .next-at .ensures, c .cell-rule .ensures)
+returns-3 c =
+    rw (
+      le-ltb _ 2 (c .before .before .before .before .before .before .if1 .left),
+      ← c .before .before .before .before .before .child-at .ensures,
+      le-ltb _ 5 (c .before .before .before .before .if2 .left),
+      eq-eqb _ 5 (c .before .before .before .if3 .taken),
+      ← c .before .before .place-at .ensures,
+      ← c .before .next-at .ensures,
+      c .cell-rule .ensures,
+    )
 
 place-at-requires-2 : tie.Need-place-at-requires-2
 place-at-requires-2 c κs = search needs
@@ -39,7 +54,15 @@ free-rule-requires c κs = search needs
 
 returns-4 : tie.Need-returns-4
 unfolding defBy
-returns-4 c = rw (le-ltb _ 2 (c .before .before .before .before .before .if1 .left), ← c .before .before .before .before .child-at .ensures, le-ltb _ 5 (c .before .before .before .if2 .left), ne-eqb _ 5 (c .before .before .if3 .left), ← c .before .place-at2 .ensures, c .free-rule .ensures)
+returns-4 c =
+    rw (
+      le-ltb _ 2 (c .before .before .before .before .before .if1 .left),
+      ← c .before .before .before .before .child-at .ensures,
+      le-ltb _ 5 (c .before .before .before .if2 .left),
+      ne-eqb _ 5 (c .before .before .if3 .left),
+      ← c .before .place-at2 .ensures,
+      c .free-rule .ensures,
+    )
 
 pub def-by-spec : {M : Type 1} → statement M
 def-by-spec =

@@ -29,11 +29,31 @@ same-type-requires c κs = search needs
 
 returns-2 : tie.Need-returns-2
 unfolding defRule nineAt
-returns-2 c = rw (← c .before .before .before .before .before .before .before .place-at .ensures, ← c .before .before .before .before .before .before .meaning-at .ensures, eq-eqb _ 0 (c .before .before .before .before .before .if1 .left), ← c .before .before .before .before .last-of .ensures, ← c .before .before .before .entry .ensures, ← c .before .before .next-at .ensures, ← c .before .same-type .ensures, c .if2 .taken)
+returns-2 c =
+    rw (
+      ← c .before .before .before .before .before .before .before .place-at .ensures,
+      ← c .before .before .before .before .before .before .meaning-at .ensures,
+      eq-eqb _ 0 (c .before .before .before .before .before .if1 .left),
+      ← c .before .before .before .before .last-of .ensures,
+      ← c .before .before .before .entry .ensures,
+      ← c .before .before .next-at .ensures,
+      ← c .before .same-type .ensures,
+      c .if2 .taken,
+    )
 
 returns-3 : tie.Need-returns-3
 unfolding defRule nineAt
-returns-3 c = rw (← c .before .before .before .before .before .before .before .place-at .ensures, ← c .before .before .before .before .before .before .meaning-at .ensures, eq-eqb _ 0 (c .before .before .before .before .before .if1 .left), ← c .before .before .before .before .last-of .ensures, ← c .before .before .before .entry .ensures, ← c .before .before .next-at .ensures, ← c .before .same-type .ensures, c .if2 .left)
+returns-3 c =
+    rw (
+      ← c .before .before .before .before .before .before .before .place-at .ensures,
+      ← c .before .before .before .before .before .before .meaning-at .ensures,
+      eq-eqb _ 0 (c .before .before .before .before .before .if1 .left),
+      ← c .before .before .before .before .last-of .ensures,
+      ← c .before .before .before .entry .ensures,
+      ← c .before .before .next-at .ensures,
+      ← c .before .same-type .ensures,
+      c .if2 .left,
+    )
 
 pub def-rule-spec : {M : Type 1} → statement M
 def-rule-spec =

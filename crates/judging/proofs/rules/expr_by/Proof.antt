@@ -54,7 +54,17 @@ returns-6 c = rw (c .before .match .keys6, c .adr-rule .ensures)
 
 returns-7 : tie.Need-returns-7
 unfolding exprBy
-returns-7 c = rw (ne-eqb _ 18 (c .before .before .match .rest .0 .0 .0 .0 .0 .1), ne-eqb _ 19 (c .before .before .match .rest .0 .0 .0 .0 .1), ne-eqb _ 20 (c .before .before .match .rest .0 .0 .0 .1), ne-eqb _ 23 (c .before .before .match .rest .0 .0 .1), ne-eqb _ 24 (c .before .before .match .rest .0 .1), ne-eqb _ 25 (c .before .before .match .rest .1), ← c .before .child-at3 .ensures, c .bools-rule .ensures)
+returns-7 c =
+    rw (
+      ne-eqb _ 18 (c .before .before .match .rest .0 .0 .0 .0 .0 .1),
+      ne-eqb _ 19 (c .before .before .match .rest .0 .0 .0 .0 .1),
+      ne-eqb _ 20 (c .before .before .match .rest .0 .0 .0 .1),
+      ne-eqb _ 23 (c .before .before .match .rest .0 .0 .1),
+      ne-eqb _ 24 (c .before .before .match .rest .0 .1),
+      ne-eqb _ 25 (c .before .before .match .rest .1),
+      ← c .before .child-at3 .ensures,
+      c .bools-rule .ensures,
+    )
 
 pub expr-by-spec : {M : Type 1} → statement M
 expr-by-spec =

@@ -28,11 +28,33 @@ same-type-requires c κs = search needs
 
 returns-2 : tie.Need-returns-2
 unfolding ifRule
-returns-2 c = rw (← c .before .before .before .before .before .before .before .has-kind .ensures, not-false (c .before .before .before .before .before .before .before .has-kind .result) (c .before .before .before .before .before .before .if1 .left), ← c .before .before .before .before .before .next-at .ensures, ← c .before .before .before .before .entry .ensures, ← c .before .before .before .next-at2 .ensures, ← c .before .before .entry2 .ensures, ← c .before .same-type .ensures, c .if2 .taken)
+returns-2 c =
+    rw (
+      ← c .before .before .before .before .before .before .before .has-kind .ensures,
+      not-false (c .before .before .before .before .before .before .before .has-kind .result) (c .before .before .before .before .before .before .if1
+          .left),
+      ← c .before .before .before .before .before .next-at .ensures,
+      ← c .before .before .before .before .entry .ensures,
+      ← c .before .before .before .next-at2 .ensures,
+      ← c .before .before .entry2 .ensures,
+      ← c .before .same-type .ensures,
+      c .if2 .taken,
+    )
 
 returns-3 : tie.Need-returns-3
 unfolding ifRule
-returns-3 c = rw (← c .before .before .before .before .before .before .before .has-kind .ensures, not-false (c .before .before .before .before .before .before .before .has-kind .result) (c .before .before .before .before .before .before .if1 .left), ← c .before .before .before .before .before .next-at .ensures, ← c .before .before .before .before .entry .ensures, ← c .before .before .before .next-at2 .ensures, ← c .before .before .entry2 .ensures, ← c .before .same-type .ensures, c .if2 .left)
+returns-3 c =
+    rw (
+      ← c .before .before .before .before .before .before .before .has-kind .ensures,
+      not-false (c .before .before .before .before .before .before .before .has-kind .result) (c .before .before .before .before .before .before .if1
+          .left),
+      ← c .before .before .before .before .before .next-at .ensures,
+      ← c .before .before .before .before .entry .ensures,
+      ← c .before .before .before .next-at2 .ensures,
+      ← c .before .before .entry2 .ensures,
+      ← c .before .same-type .ensures,
+      c .if2 .left,
+    )
 
 pub if-rule-spec : {M : Type 1} → statement M
 if-rule-spec =

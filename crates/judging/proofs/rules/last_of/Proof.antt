@@ -21,7 +21,13 @@ next-at-requires c κs = search needs
 
 returns : tie.Need-returns Inv-loop μ-loop
 unfolding lastFrom
-returns c = rw (← c .before .before .before .loop .inv, last-more _ (c .before .before .loop-test .taken), ← c .before .next-at .ensures, eq-eqb _ 0 (c .if1 .taken))
+returns c =
+    rw (
+      ← c .before .before .before .loop .inv,
+      last-more _ (c .before .before .loop-test .taken),
+      ← c .before .next-at .ensures,
+      eq-eqb _ 0 (c .if1 .taken),
+    )
 
 sub-left : tie.Need-sub-left Inv-loop μ-loop
 sub-left c = search needs
@@ -31,7 +37,12 @@ loop-less c = search needs
 
 loop-again : tie.Need-loop-again Inv-loop μ-loop
 unfolding lastFrom
-loop-again c = rw (← c .before .before .before .loop .inv) (rw (last-more _ (c .before .before .loop-test .taken), ← c .before .next-at .ensures, ne-eqb _ 0 (c .if1 .left)))
+loop-again c =
+    rw (← c .before .before .before .loop .inv) (rw (
+      last-more _ (c .before .before .loop-test .taken),
+      ← c .before .next-at .ensures,
+      ne-eqb _ 0 (c .if1 .left),
+    ))
 
 returns-2 : tie.Need-returns-2 Inv-loop μ-loop
 unfolding lastFrom

@@ -23,19 +23,53 @@ bound-rule-requires c κs = search needs
 
 returns-2 : tie.Need-returns-2
 unfolding nameRule nineAt
-returns-2 c = rw (← c .before .before .before .before .before .role-at .ensures, ne-eqb _ 1 (c .before .before .before .before .if1 .left), ← c .before .before .before .place-at .ensures, ← c .before .before .meaning-at .ensures, eq-eqb _ 0 (c .before .if2 .taken), c .bound-rule .ensures)
+returns-2 c =
+    rw (
+      ← c .before .before .before .before .before .role-at .ensures,
+      ne-eqb _ 1 (c .before .before .before .before .if1 .left),
+      ← c .before .before .before .place-at .ensures,
+      ← c .before .before .meaning-at .ensures,
+      eq-eqb _ 0 (c .before .if2 .taken),
+      c .bound-rule .ensures,
+    )
 
 returns-3 : tie.Need-returns-3
 unfolding nameRule nineAt
-returns-3 c = rw (← c .before .before .before .before .before .role-at .ensures, ne-eqb _ 1 (c .before .before .before .before .if1 .left), ← c .before .before .before .place-at .ensures, ← c .before .before .meaning-at .ensures, ne-eqb _ 0 (c .before .if2 .left), lt-ltb _ 3 (c .if3 .taken))
+returns-3 c =
+    rw (
+      ← c .before .before .before .before .before .role-at .ensures,
+      ne-eqb _ 1 (c .before .before .before .before .if1 .left),
+      ← c .before .before .before .place-at .ensures,
+      ← c .before .before .meaning-at .ensures,
+      ne-eqb _ 0 (c .before .if2 .left),
+      lt-ltb _ 3 (c .if3 .taken),
+    )
 
 returns-4 : tie.Need-returns-4
 unfolding nameRule nineAt
-returns-4 c = rw (← c .before .before .before .before .before .before .role-at .ensures, ne-eqb _ 1 (c .before .before .before .before .before .if1 .left), ← c .before .before .before .before .place-at .ensures, ← c .before .before .before .meaning-at .ensures, ne-eqb _ 0 (c .before .before .if2 .left), le-ltb _ 3 (c .before .if3 .left), eq-eqb _ 2 (c .if4 .taken))
+returns-4 c =
+    rw (
+      ← c .before .before .before .before .before .before .role-at .ensures,
+      ne-eqb _ 1 (c .before .before .before .before .before .if1 .left),
+      ← c .before .before .before .before .place-at .ensures,
+      ← c .before .before .before .meaning-at .ensures,
+      ne-eqb _ 0 (c .before .before .if2 .left),
+      le-ltb _ 3 (c .before .if3 .left),
+      eq-eqb _ 2 (c .if4 .taken),
+    )
 
 returns-5 : tie.Need-returns-5
 unfolding nameRule nineAt
-returns-5 c = rw (← c .before .before .before .before .before .before .role-at .ensures, ne-eqb _ 1 (c .before .before .before .before .before .if1 .left), ← c .before .before .before .before .place-at .ensures, ← c .before .before .before .meaning-at .ensures, ne-eqb _ 0 (c .before .before .if2 .left), le-ltb _ 3 (c .before .if3 .left), ne-eqb _ 2 (c .if4 .left))
+returns-5 c =
+    rw (
+      ← c .before .before .before .before .before .before .role-at .ensures,
+      ne-eqb _ 1 (c .before .before .before .before .before .if1 .left),
+      ← c .before .before .before .before .place-at .ensures,
+      ← c .before .before .before .meaning-at .ensures,
+      ne-eqb _ 0 (c .before .before .if2 .left),
+      le-ltb _ 3 (c .before .if3 .left),
+      ne-eqb _ 2 (c .if4 .left),
+    )
 
 pub name-rule-spec : {M : Type 1} → statement M
 name-rule-spec =

@@ -16,7 +16,8 @@ next-at-requires c κs = search needs
 
 returns-2 : tie.Need-returns-2
 unfolding oneArg
-returns-2 c = rw (ne-eqb _ 0 (c .before .before .before .if1 .left), ← c .before .before .has-kind .ensures, c .before .if2 .taken, ← c .next-at .ensures)
+returns-2 c =
+    rw (ne-eqb _ 0 (c .before .before .before .if1 .left), ← c .before .before .has-kind .ensures, c .before .if2 .taken, ← c .next-at .ensures)
 
 returns-3 : tie.Need-returns-3
 unfolding oneArg

@@ -24,11 +24,23 @@ returns-3 c = rw (ne-eqb _ 3 (c .before .before .if1 .left), ← c .before .two-
 
 returns-4 : tie.Need-returns-4
 unfolding operated
-returns-4 c = rw (ne-eqb _ 3 (c .before .before .before .if1 .left), ← c .before .before .two-args .ensures, not-false (c .before .before .two-args .result) (c .before .if3 .left), lt-ltb _ 6 (c .if4 .taken))
+returns-4 c =
+    rw (
+      ne-eqb _ 3 (c .before .before .before .if1 .left),
+      ← c .before .before .two-args .ensures,
+      not-false (c .before .before .two-args .result) (c .before .if3 .left),
+      lt-ltb _ 6 (c .if4 .taken),
+    )
 
 returns-5 : tie.Need-returns-5
 unfolding operated
-returns-5 c = rw (ne-eqb _ 3 (c .before .before .before .if1 .left), ← c .before .before .two-args .ensures, not-false (c .before .before .two-args .result) (c .before .if3 .left), le-ltb _ 6 (c .if4 .left))
+returns-5 c =
+    rw (
+      ne-eqb _ 3 (c .before .before .before .if1 .left),
+      ← c .before .before .two-args .ensures,
+      not-false (c .before .before .two-args .result) (c .before .if3 .left),
+      le-ltb _ 6 (c .if4 .left),
+    )
 
 pub operate-spec : {M : Type 1} → statement M
 operate-spec =

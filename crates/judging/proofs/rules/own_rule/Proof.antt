@@ -19,21 +19,41 @@ stat-by-requires c κs = search needs
 
 returns-2 : tie.Need-returns-2
 unfolding ownBy
-returns-2 c = rw (← c .before .before .before .kind-at .ensures, le-ltb _ 8 (c .before .before .if1 .left), lt-ltb _ 13 (c .before .if2 .taken), c .stat-by .ensures)
+returns-2 c =
+    rw (
+      ← c .before .before .before .kind-at .ensures,
+      le-ltb _ 8 (c .before .before .if1 .left),
+      lt-ltb _ 13 (c .before .if2 .taken),
+      c .stat-by .ensures,
+    )
 
 param-by-requires : tie.Need-param-by-requires
 param-by-requires c κs = search needs
 
 returns-3 : tie.Need-returns-3
 unfolding ownBy
-returns-3 c = rw (← c .before .before .before .before .kind-at .ensures, le-ltb _ 8 (c .before .before .before .if1 .left), le-ltb _ 13 (c .before .before .if2 .left), lt-ltb _ 18 (c .before .if3 .taken), c .param-by .ensures)
+returns-3 c =
+    rw (
+      ← c .before .before .before .before .kind-at .ensures,
+      le-ltb _ 8 (c .before .before .before .if1 .left),
+      le-ltb _ 13 (c .before .before .if2 .left),
+      lt-ltb _ 18 (c .before .if3 .taken),
+      c .param-by .ensures,
+    )
 
 expr-by-requires : tie.Need-expr-by-requires
 expr-by-requires c κs = search needs
 
 returns-4 : tie.Need-returns-4
 unfolding ownBy
-returns-4 c = rw (← c .before .before .before .before .kind-at .ensures, le-ltb _ 8 (c .before .before .before .if1 .left), le-ltb _ 13 (c .before .before .if2 .left), le-ltb _ 18 (c .before .if3 .left), c .expr-by .ensures)
+returns-4 c =
+    rw (
+      ← c .before .before .before .before .kind-at .ensures,
+      le-ltb _ 8 (c .before .before .before .if1 .left),
+      le-ltb _ 13 (c .before .before .if2 .left),
+      le-ltb _ 18 (c .before .if3 .left),
+      c .expr-by .ensures,
+    )
 
 pub own-rule-spec : {M : Type 1} → statement M
 own-rule-spec =

@@ -31,7 +31,14 @@ returns c = rw (c .before .before .before .match .keys1, ← c .before .before .
 
 returns-2 : tie.Need-returns-2
 unfolding paramBy
-returns-2 c = rw (c .before .before .before .before .match .keys2, ← c .before .before .before .place-at2 .ensures, ← c .before .before .child-at .ensures, ← c .before .cell-rule .ensures, c .single-rule2 .ensures)
+returns-2 c =
+    rw (
+      c .before .before .before .before .match .keys2,
+      ← c .before .before .before .place-at2 .ensures,
+      ← c .before .before .child-at .ensures,
+      ← c .before .cell-rule .ensures,
+      c .single-rule2 .ensures,
+    )
 
 returns-3 : tie.Need-returns-3
 unfolding paramBy

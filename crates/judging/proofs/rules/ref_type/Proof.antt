@@ -17,14 +17,30 @@ next-at-requires c κs = search needs
 
 returns : tie.Need-returns
 unfolding refType
-returns c = (rw (← c .before .before .before .kind-at .ensures, eq-eqb _ 5 (c .before .before .if1 .taken), ← c .before .child-at .ensures, c .next-at .ensures), rw (c .next-at .ensures) (next-small _ _))
+returns c = (
+  rw (
+    ← c .before .before .before .kind-at .ensures,
+    eq-eqb _ 5 (c .before .before .if1 .taken),
+    ← c .before .child-at .ensures,
+    c .next-at .ensures,
+  ),
+  rw (c .next-at .ensures) (next-small _ _),
+)
 
 child-at-requires-2 : tie.Need-child-at-requires-2
 child-at-requires-2 c κs = search needs
 
 returns-2 : tie.Need-returns-2
 unfolding refType
-returns-2 c = (rw (← c .before .before .before .kind-at .ensures, ne-eqb _ 5 (c .before .before .if1 .left), eq-eqb _ 14 (c .before .if2 .taken), c .child-at2 .ensures), rw (c .child-at2 .ensures) (child-small _ _))
+returns-2 c = (
+  rw (
+    ← c .before .before .before .kind-at .ensures,
+    ne-eqb _ 5 (c .before .before .if1 .left),
+    eq-eqb _ 14 (c .before .if2 .taken),
+    c .child-at2 .ensures,
+  ),
+  rw (c .child-at2 .ensures) (child-small _ _),
+)
 
 returns-3 : tie.Need-returns-3
 unfolding refType

@@ -25,11 +25,29 @@ same-type-requires c κs = search needs
 
 returns-2 : tie.Need-returns-2
 unfolding setRule
-returns-2 c = rw (← c .before .before .before .before .before .before .target-type .ensures .0, ne-eqb _ 0 (c .before .before .before .before .before .if1 .left), ← c .before .before .before .before .child-at .ensures, ← c .before .before .before .next-at .ensures, ← c .before .before .entry .ensures, ← c .before .same-type .ensures, c .if2 .taken)
+returns-2 c =
+    rw (
+      ← c .before .before .before .before .before .before .target-type .ensures .0,
+      ne-eqb _ 0 (c .before .before .before .before .before .if1 .left),
+      ← c .before .before .before .before .child-at .ensures,
+      ← c .before .before .before .next-at .ensures,
+      ← c .before .before .entry .ensures,
+      ← c .before .same-type .ensures,
+      c .if2 .taken,
+    )
 
 returns-3 : tie.Need-returns-3
 unfolding setRule
-returns-3 c = rw (← c .before .before .before .before .before .before .target-type .ensures .0, ne-eqb _ 0 (c .before .before .before .before .before .if1 .left), ← c .before .before .before .before .child-at .ensures, ← c .before .before .before .next-at .ensures, ← c .before .before .entry .ensures, ← c .before .same-type .ensures, c .if2 .left)
+returns-3 c =
+    rw (
+      ← c .before .before .before .before .before .before .target-type .ensures .0,
+      ne-eqb _ 0 (c .before .before .before .before .before .if1 .left),
+      ← c .before .before .before .before .child-at .ensures,
+      ← c .before .before .before .next-at .ensures,
+      ← c .before .before .entry .ensures,
+      ← c .before .same-type .ensures,
+      c .if2 .left,
+    )
 
 pub set-rule-spec : {M : Type 1} → statement M
 set-rule-spec =

@@ -15,11 +15,25 @@ named-from-requires c κs = search needs
 
 returns : tie.Need-returns
 unfolding singleRule
-returns c = rw (eq-eqb _ 65537 (c .before .before .before .before .if1 .taken), ← c .before .before .before .place-at .ensures, ← c .before .before .behind-at .ensures, ← c .before .named-from .ensures, c .if2 .taken)
+returns c =
+    rw (
+      eq-eqb _ 65537 (c .before .before .before .before .if1 .taken),
+      ← c .before .before .before .place-at .ensures,
+      ← c .before .before .behind-at .ensures,
+      ← c .before .named-from .ensures,
+      c .if2 .taken,
+    )
 
 returns-2 : tie.Need-returns-2
 unfolding singleRule
-returns-2 c = rw (eq-eqb _ 65537 (c .before .before .before .before .if1 .taken), ← c .before .before .before .place-at .ensures, ← c .before .before .behind-at .ensures, ← c .before .named-from .ensures, c .if2 .left)
+returns-2 c =
+    rw (
+      eq-eqb _ 65537 (c .before .before .before .before .if1 .taken),
+      ← c .before .before .before .place-at .ensures,
+      ← c .before .before .behind-at .ensures,
+      ← c .before .named-from .ensures,
+      c .if2 .left,
+    )
 
 returns-3 : tie.Need-returns-3
 unfolding singleRule

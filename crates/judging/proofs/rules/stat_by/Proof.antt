@@ -36,7 +36,14 @@ returns-3 c = rw (c .before .match .keys3, c .call-rule .ensures)
 
 returns-4 : tie.Need-returns-4
 unfolding statBy
-returns-4 c = rw (ne-eqb _ 8 (c .before .before .match .rest .0 .0 .1), ne-eqb _ 9 (c .before .before .match .rest .0 .1), ne-eqb _ 12 (c .before .before .match .rest .1), ← c .before .child-at2 .ensures, c .part-rule2 .ensures)
+returns-4 c =
+    rw (
+      ne-eqb _ 8 (c .before .before .match .rest .0 .0 .1),
+      ne-eqb _ 9 (c .before .before .match .rest .0 .1),
+      ne-eqb _ 12 (c .before .before .match .rest .1),
+      ← c .before .child-at2 .ensures,
+      c .part-rule2 .ensures,
+    )
 
 pub stat-by-spec : {M : Type 1} → statement M
 stat-by-spec =

@@ -19,14 +19,33 @@ binder-of-requires c κs = search needs
 
 returns : tie.Need-returns
 unfolding targetType
-returns c = (rw (← c .before .before .before .before .env-at .ensures .0, ← c .before .before .before .child-at .ensures, ← c .before .before .place-at .ensures, ← c .before .binder-of .ensures, eq-eqb _ 0 (c .if1 .taken)), omega arith)
+returns c = (
+  rw (
+    ← c .before .before .before .before .env-at .ensures .0,
+    ← c .before .before .before .child-at .ensures,
+    ← c .before .before .place-at .ensures,
+    ← c .before .binder-of .ensures,
+    eq-eqb _ 0 (c .if1 .taken),
+  ),
+  omega arith,
+)
 
 ref-type-requires : tie.Need-ref-type-requires
 ref-type-requires c κs = search needs
 
 returns-2 : tie.Need-returns-2
 unfolding targetType
-returns-2 c = (rw (← c .before .before .before .before .before .env-at .ensures .0, ← c .before .before .before .before .child-at .ensures, ← c .before .before .before .place-at .ensures, ← c .before .before .binder-of .ensures, ne-eqb _ 0 (c .before .if1 .left), c .ref-type .ensures .0), c .ref-type .ensures .1)
+returns-2 c = (
+  rw (
+    ← c .before .before .before .before .before .env-at .ensures .0,
+    ← c .before .before .before .before .child-at .ensures,
+    ← c .before .before .before .place-at .ensures,
+    ← c .before .before .binder-of .ensures,
+    ne-eqb _ 0 (c .before .if1 .left),
+    c .ref-type .ensures .0,
+  ),
+  c .ref-type .ensures .1,
+)
 
 pub target-type-spec : {M : Type 1} → statement M
 target-type-spec =
