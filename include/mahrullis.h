@@ -46,7 +46,7 @@ typedef char mahrullis_needs_64_bits[sizeof(size_t) == 8 ? 1 : -1];
 #define MAHRULLIS_ENTRIES_A_CELL 2
 #define MAHRULLIS_ENTRIES_A_NUMBER 1
 
-/* Every answer. CHECK gives 0, 1 and 3 to 9, RUN all of them, NAME 0 and 3. 1 to 9 are refusals; 20 to 27 stop a run, 20 to 24 at a limit. */
+/* Every answer. CHECK gives 0, 1 and 3 to 10, RUN all of them, NAME 0 and 3. 1 to 10 are refusals; 20 to 27 stop a run, 20 to 24 at a limit. */
 enum mahrullis_answer {
     MAHRULLIS_DONE = 0,      /* accepted, or run to its end; place 0 */
     MAHRULLIS_LENGTH = 1,    /* the text is over 16,384 bytes; place 0 */
@@ -58,6 +58,7 @@ enum mahrullis_answer {
     MAHRULLIS_SYNTAX = 7,    /* the words so far begin no program, at the first such word or at the text's end */
     MAHRULLIS_LEVEL = 8,     /* a 65th level opens, at that word */
     MAHRULLIS_TYPE = 9,      /* a rule of the types cannot be met, at the node */
+    MAHRULLIS_DOUBLE = 10,   /* a parameter has the name of one before it in its list, at it */
     MAHRULLIS_FUEL = 20,     /* no unit is left, at the node entered */
     MAHRULLIS_DEPTH = 21,    /* too many are entered and unended, at the node entered */
     MAHRULLIS_CELLS = 22,    /* no cell is left, at the VAR */
@@ -100,7 +101,7 @@ enum mahrullis_kind {
 /* CHECK: is the text a program whose types hold? Answers an enum mahrullis_answer and writes report[0] to report[5]: the answer, its place, and four zeros.
  * Left behind, entries past a table's size untouched and the text only read:
  *   after 1 and 3   every table as it was, but for those six entries of the report
- *   after 4 to 9    tree, words, stack, scopes and notes zero up to their sizes
+ *   after 4 to 10   tree, words, stack, scopes and notes zero up to their sizes
  *   accepted        the tree, then zeros up to word 4,096; words, stack, scopes and notes zero up to their sizes
  * A report of under six entries is answered TABLE before anything else, and then it too is left as it was. */
 uint64_t mahrullis_check(const uint8_t *text, size_t text_length,
@@ -112,10 +113,10 @@ uint64_t mahrullis_check(const uint8_t *text, size_t text_length,
     uint64_t *report, size_t report_length);
 
 /* RUN: checks the text and runs it within the limits. Answers an enum mahrullis_answer and writes report[0] to report[5]: the answer, its place, the units,
- * bindings and cells taken, and how many numbers were put out; the last four are 0 after 1 to 9.
+ * bindings and cells taken, and how many numbers were put out; the last four are 0 after 1 to 10.
  * Left behind, entries past a table's size untouched and the text only read:
  *   after 1 to 3    every table as it was, but for those six entries of the report
- *   after 4 to 9    tree, words, stack, scopes, notes and waiting zero up to their sizes; bindings, cells and output as they were
+ *   after 4 to 10   tree, words, stack, scopes, notes and waiting zero up to their sizes; bindings, cells and output as they were
  *   after a run     the tree, then zeros up to word 4,096; words, stack, scopes, notes and waiting zero up to their sizes; bindings and cells zero as far as
  *                   their limits; the numbers put out, oldest first, and the rest of the output as it was
  * A report of under six entries is answered TABLE before anything else, and then it too is left as it was. */
@@ -209,7 +210,7 @@ static inline struct mahrullis_report mahrullis_check_text(const void *text, siz
     return mahrullis_report_in(report);
 }
 
-/* RUN over such tables: never answers TABLE. After any code but 1 to 9 the tree stands in tables->tree and the numbers in tables->output. */
+/* RUN over such tables: never answers TABLE. After any code but 1 to 10 the tree stands in tables->tree and the numbers in tables->output. */
 static inline struct mahrullis_report mahrullis_run_text(const void *text, size_t length, struct mahrullis_limits limits, struct mahrullis_tables *tables) {
     uint64_t report[MAHRULLIS_REPORT_ENTRIES];
     mahrullis_run(mahrullis_bytes(text), length,

@@ -27,6 +27,7 @@ static const struct script scripts[] = {
     { "[ECHO true]", GREATEST, { MAHRULLIS_TYPE, 1, 0, 0, 0, 0 }, { 0 } },
     { "[ECHO y]", GREATEST, { MAHRULLIS_TYPE, 6, 0, 0, 0, 0 }, { 0 } },
     { "[CONST f (int * int -> int) add; ECHO 1]", GREATEST, { MAHRULLIS_TYPE, 28, 0, 0, 0, 0 }, { 0 } },
+    { "[FUN f int [fare:int, fare:bool] 1; ECHO 1]", GREATEST, { MAHRULLIS_DOUBLE, 22, 0, 0, 0, 0 }, { 0 } },
     { "[PROC p [var x:int] [SET x (add x 1)]; VAR v int; SET v 41; CALL p (adr v); ECHO v]", GREATEST, { MAHRULLIS_DONE, 0, 12, 3, 1, 1 }, { 42 } },
     { "[PROC p [var x:int] [SET x (add x 1)]; VAR v int; SET v 41; CALL p v; ECHO v]", GREATEST, { MAHRULLIS_TYPE, 60, 0, 0, 0, 0 }, { 0 } },
     { "[FUN REC f int [n:int] (if (lt n 1) 0 (add n (f (sub n 1)))); ECHO (f 3)]", GREATEST, { MAHRULLIS_DONE, 0, 43, 9, 0, 1 }, { 6 } },

@@ -46,7 +46,7 @@ static uint64_t answer;
 static unsigned long long seen[JOBS][28];
 static const char *const job_names[JOBS] = { "CHECK", "RUN", "NAME" };
 static const char *const answer_names[28] = {
-    "DONE", "LENGTH", "LIMIT", "TABLE", "BYTE", "NUMBER", "TOKENS", "SYNTAX", "LEVEL", "TYPE", 0, 0, 0, 0, 0, 0, 0, 0, 0, 0,
+    "DONE", "LENGTH", "LIMIT", "TABLE", "BYTE", "NUMBER", "TOKENS", "SYNTAX", "LEVEL", "TYPE", "DOUBLE", 0, 0, 0, 0, 0, 0, 0, 0, 0,
     "FUEL", "DEPTH", "CELLS", "BINDINGS", "OUTPUT", "RANGE", "ZERO", "UNSET",
 };
 
@@ -185,7 +185,7 @@ static void expect_report(void) {
     uint64_t place = r[1], units = r[2], bindings = r[3], cells = r[4], numbers = r[5];
     hold(r[0] == answer, "the report has the answer");
     hold(answer == 7 ? place <= text_length : answer == 0 || answer <= 3 ? place == 0 : place < text_length, "the place lies in the text");
-    if (job == CHECK || (answer >= 1 && answer <= 9)) hold(units == 0 && bindings == 0 && cells == 0 && numbers == 0, "no run, no counts");
+    if (job == CHECK || (answer >= 1 && answer <= 10)) hold(units == 0 && bindings == 0 && cells == 0 && numbers == 0, "no run, no counts");
     else hold(units <= limits.fuel && bindings <= limits.bindings && cells <= limits.cells && numbers <= limits.output, "the counts keep the limits");
     if (answer == MAHRULLIS_FUEL) hold(units == limits.fuel, "FUEL: every unit is taken");
     if (answer == MAHRULLIS_CELLS) hold(cells == limits.cells, "CELLS: every cell is taken");
@@ -225,13 +225,13 @@ static void expect_numbers(void) {
 static void expect_tables(void) {
     uint64_t early = early_answer();
     if (early != 0) hold(answer == early, "the early answer");
-    else hold(answer == 0 || (answer >= 4 && answer <= 9) || (job == RUN && answer >= 20 && answer <= 27), "an answer of this job");
+    else hold(answer == 0 || (answer >= 4 && answer <= 10) || (job == RUN && answer >= 20 && answer <= 27), "an answer of this job");
     if (tables[REPORT].length < MAHRULLIS_REPORT_ENTRIES) return;
     expect_report();
     if (early != 0) return;
     for (int i = WORDS; i <= NOTES; i++) expect_zeros(i);
     if (job == RUN) expect_zeros(WAITING);
-    if (answer >= 4 && answer <= 9) {
+    if (answer >= 4 && answer <= 10) {
         expect_zeros(TREE);
         return;
     }
@@ -253,7 +253,7 @@ static void check_too(void) {
     struct mahrullis_report report;
     if (answer >= 1 && answer <= 3) return;
     report = mahrullis_check_text(text, text_length, &again);
-    if (answer >= 4 && answer <= 9) hold(report.code == answer && report.place == entries(REPORT)[1], "CHECK refuses what RUN refuses");
+    if (answer >= 4 && answer <= 10) hold(report.code == answer && report.place == entries(REPORT)[1], "CHECK refuses what RUN refuses");
     else hold(report.code == 0 && memcmp(again.tree, entries(TREE), sizeof again.tree) == 0, "CHECK and RUN leave the same tree");
 }
 

@@ -58,6 +58,7 @@ static const char *const whole_scripts[] = {
     "[VAR b bool; SET b (or true false); WHILE b [ECHO 7; SET b (not b)]]",
     "[FUN f (int -> int) [a:int] [b:int] (sub a b); ECHO ((f 9) 4)]",
     "[VAR a int; VAR b int; SET a 1; PROC swap [var x:int, var y:int] [VAR t int; SET t x; SET x y; SET y t]; SET b 2; CALL swap (adr a) (adr b); ECHO a; ECHO b]",
+    "[FUN fare int [zones:int, peak:bool, zones:int] (mul zones 95); ECHO (fare 1 true 2)]",
     "12ab 1-2 -> - > 007 VARx var adr\t(adr",
 };
 

@@ -1,10 +1,10 @@
 -- What each of RUN's answers means: document 01's answer for each case.
 use Prim.Native.Nat.{ℕ}
-use Rattle.language.specs.Answers.{LENGTH, LIMIT, TABLE, BYTE, NUMBER, TOKENS, SYNTAX, LEVEL, TYPE, FUEL, DEPTH, CELLS, BINDINGS, OUTPUT, RANGE, ZERO, UNSET, limit, error, done, refused, stopped}
+use Rattle.language.specs.Answers.{LENGTH, LIMIT, TABLE, BYTE, NUMBER, TOKENS, SYNTAX, LEVEL, TYPE, DOUBLE, FUEL, DEPTH, CELLS, BINDINGS, OUTPUT, RANGE, ZERO, UNSET, limit, error, done, refused, stopped}
 use Rattle.language.specs.Answers as language
 use Rattle.language.specs.Promises.{Told}
 use Rattle.answers.specs.declared.Answer.{Answer}
-use Rattle.answers.specs.declared.Answer.the-variants.{Done, Length, Limit, Table, Byte, Number, Tokens, Syntax, Level, «Type», Fuel, Depth, Cells, Bindings, Output, Range, Zero, Unset}
+use Rattle.answers.specs.declared.Answer.the-variants.{Done, Length, Limit, Table, Byte, Number, Tokens, Syntax, Level, «Type», Double, Fuel, Depth, Cells, Bindings, Output, Range, Zero, Unset}
 use Rattle.answers.specs.declared.Report.{Report}
 
 abbrev pub meant : Answer → language.Answer
@@ -18,6 +18,7 @@ meant (Tokens p) = refused TOKENS p
 meant (Syntax p) = refused SYNTAX p
 meant (Level p) = refused LEVEL p
 meant («Type» p) = refused TYPE p
+meant (Double p) = refused DOUBLE p
 meant (Fuel p) = stopped (limit FUEL) p
 meant (Depth p) = stopped (limit DEPTH) p
 meant (Cells p) = stopped (limit CELLS) p

@@ -75,11 +75,11 @@ fn say_taken(report: Report) {
     lines::text(b"\n");
 }
 
-// The refusals are 1 to 9, and the stops are above them.
+// The refusals are 1 to 10, and the stops are above them.
 fn say(text: &[u8], limits: Limits, report: Report, output: &[i64]) {
     let answer = report.answer;
     let number = answers::number_of(answer);
-    if 1 <= number && number <= 9 {
+    if 1 <= number && number <= 10 {
         lines::text(b"refused: ");
         say_why(text, limits, answer);
         return;

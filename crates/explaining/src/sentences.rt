@@ -1,5 +1,7 @@
 // The answers' names, and a sentence for each that tells a tariff's author what to change.
+use super::say_place;
 use answers::Answer;
+use nodes::same_name;
 use runner::Limits;
 use words::Found;
 
@@ -15,6 +17,7 @@ pub fn say_name(answer: Answer) {
         Answer::Syntax(_) => lines::text(b"SYNTAX"),
         Answer::Level(_) => lines::text(b"LEVEL"),
         Answer::Type(_) => lines::text(b"TYPE"),
+        Answer::Double(_) => lines::text(b"DOUBLE"),
         Answer::Fuel(_) => lines::text(b"FUEL"),
         Answer::Depth(_) => lines::text(b"DEPTH"),
         Answer::Cells(_) => lines::text(b"CELLS"),
@@ -85,6 +88,8 @@ fn say_level() {
 }
 
 // The numbers of symbols and key words, as `words` has them.
+const LIST: u8 = 1;
+
 const OPENING: u8 = 3;
 
 const COLON: u8 = 6;
@@ -151,6 +156,28 @@ fn past(found: Found, at: usize) -> usize {
             end,
         } => end,
         Found::Name { start: _, end } => end,
+        Found::End => at,
+        Found::Refused {
+            number: _,
+            place: _,
+        } => at,
+    }
+}
+
+// The start of a word, or `at` where there is none.
+fn start_of(found: Found, at: usize) -> usize {
+    match found {
+        Found::Mark {
+            number: _,
+            start,
+            end: _,
+        } => start,
+        Found::Number {
+            value: _,
+            start,
+            end: _,
+        } => start,
+        Found::Name { start, end: _ } => start,
         Found::End => at,
         Found::Refused {
             number: _,
@@ -232,6 +259,34 @@ fn say_type(text: &[u8], place: usize) {
     }
 }
 
+// The parameter named like the one at `place` and before it in its list, which begins at the last [ before `place`: types have no names and no [.
+fn earlier_of(text: &[u8], place: usize) -> usize {
+    let mut earlier = place;
+    let mut at: usize = 0;
+    let mut left: u64 = 4_096; // a script's words
+    while 0 < left {
+        let found = reader::read_at(text, at);
+        let start = start_of(found, place);
+        if place <= start {
+            return earlier;
+        }
+        if mark_of(found) == LIST {
+            earlier = place;
+        } else if same_name(text, start as u64, place as u64) {
+            earlier = start;
+        }
+        at = past(found, at);
+        left -= 1;
+    }
+    earlier
+}
+
+fn say_double(text: &[u8], place: usize) {
+    lines::text(b"this parameter has the name of an earlier one in its list,");
+    say_place(text, earlier_of(text, place));
+    lines::text(b":\ngive one of the two another name");
+}
+
 fn say_fuel(fuel: u64) {
     lines::text(b"no unit of fuel is left to enter this: the run was given ");
     lines::count(fuel);
@@ -291,6 +346,7 @@ pub fn say_sentence(text: &[u8], limits: Limits, answer: Answer) {
         Answer::Syntax(_) => say_syntax(text, place),
         Answer::Level(_) => say_level(),
         Answer::Type(_) => say_type(text, place),
+        Answer::Double(_) => say_double(text, place),
         Answer::Fuel(_) => say_fuel(limits.fuel),
         Answer::Depth(_) => say_depth(limits.depth),
         Answer::Cells(_) => say_cells(limits.cells),

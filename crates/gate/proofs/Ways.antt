@@ -7,7 +7,7 @@ use native.Mathlib.Omega.{arith}
 use lib.Dec.{leb}
 use lib.IntN.{ℤ}
 use lib.ListN.{length, take}
-use Rattle.language.specs.Answers.{LENGTH, LIMIT, TABLE, BYTE, NUMBER, TOKENS, SYNTAX, LEVEL, TYPE, FUEL, DEPTH, CELLS, BINDINGS, OUTPUT, RANGE, ZERO, UNSET, limit, error, done, refused, stopped, number-of}
+use Rattle.language.specs.Answers.{LENGTH, LIMIT, TABLE, BYTE, NUMBER, TOKENS, SYNTAX, LEVEL, TYPE, DOUBLE, FUEL, DEPTH, CELLS, BINDINGS, OUTPUT, RANGE, ZERO, UNSET, limit, error, done, refused, stopped, number-of}
 use Rattle.language.specs.Answers as language
 use Rattle.language.specs.Limits.{Limits, Admitted}
 use Rattle.language.specs.Promises.{text-bytes, Check, Ran, all-large, Run, too-much}
@@ -40,6 +40,7 @@ number-done (refused TOKENS p) h = absurd (omega arith)
 number-done (refused SYNTAX p) h = absurd (omega arith)
 number-done (refused LEVEL p) h = absurd (omega arith)
 number-done (refused TYPE p) h = absurd (omega arith)
+number-done (refused DOUBLE p) h = absurd (omega arith)
 number-done (stopped (limit FUEL) p) h = absurd (omega arith)
 number-done (stopped (limit DEPTH) p) h = absurd (omega arith)
 number-done (stopped (limit CELLS) p) h = absurd (omega arith)

@@ -29,7 +29,7 @@ use Rattle.judge.proofs.Verdicts.{Run, One, Own, own-fine, Sit, Seat, s
 use Rattle.judge.proofs.Looking.{Written, Binder, binds-value, binds-ref, binds-proc, Looks, looks-more, Scope, scope-up, scope-inner, scope-outer, Front}
 use Rattle.judge.proofs.Written.{first-params, params-values, type-one, type-written, here-in, kind-here, last-part}
 use Rattle.judge.proofs.Parameters.{nine-free, own-pass, free-rule, cell-rule, type-later, params-take, params-kids}
-use Rattle.judge.proofs.Expressions.{has-at, role-here, env-here, plain-role, node-fine, behind′, expr-one}
+use Rattle.judge.proofs.Expressions.{has-at, role-here, env-here, plain-role, listed-role, node-fine, behind′, expr-one}
 
 pub type-binds : (t : TypeTree) → bindsOf (kind-type t) ≡ 0
 unfolding bindsOf
@@ -219,10 +219,10 @@ module _ (g : Run) where
       let fp = subst (λ r. Front g r fs) (sym (type-later g t y ∙ name-later d)) f in
       node-one g h l (kids-past g d (omega arith) (silent-name d u sd) (kids-past g y zy (type-one g t y u)
       (params-kids g (values ps) (kind-expr e) (place-expr e) (kids-expr e) end fs Γ _ (y .rest) u zp fp ia
-      (scope-outer g y (type-binds t) (scope-outer g d refl sd)) (λ j ro ro′ w r a sj build.
+      (scope-outer g y (type-binds t) (scope-outer g d refl sd)) (λ j ro ro′ w rl ys r a sj lj build.
       let b = seat g r in
       let zj : 0 < j = omega arith in
-      kids-then g b zj _ (expr-one g e b u zj sj (plain-role g (head-operator e)) se qe) (λ τ o k.
+      kids-then g b zj _ (expr-one g e b u zj sj (listed-role g lj (head-operator e)) se qe) (λ τ o k.
       kids-done g (b .rest) (λ M ag. rw (own M, h .child)
       (def-own (suc n) q (d .mid) j x t M (d .place) i (d .next)
       (last-two t h l (first-params (values ps) (kind-expr e) (place-expr e) (kids-expr e) end (y .mid))
@@ -249,7 +249,7 @@ module _ (g : Run) where
       (h : Seat g k p (node 19 q end (params-row ps (block-row b end))) s n m row row′ v) → m ≤ g.count
       → ((M : List ℕ) → ownBy k g.text g.tree g.scopes M n ≡ freeRule g.text (placeAt g.tree (childAt g.tree n)))
       → Scope g (suc n) (innerAt g.tree g.scopes n) 1 (fs ++ Γ) → Front g (rowAfter g.tree n row) fs → x ≡ nameAt g.text q → inArgsP ps (Stands g.text)
-      → ((j ro ro′ w : ℕ) (r : Sit g (block-row b end) j (h .mid) ro ro′ w) → 0 < j → Scope g j w 0 (fs ++ extend (declared ps) Γ)
+      → ((j ro ro′ w rl : ℕ) (r : Sit g (block-row b end) j (h .mid) ro ro′ w) → 0 < j → Scope g j w rl (fs ++ extend (declared ps) Γ)
       → One g Fine j (seat g r .mid) (judge-block (fs ++ extend (declared ps) Γ) b))
       → One g Fine n (h .mid) (andThen (judge-params ps) λ w. andThen (judge-block (fs ++ extend (declared ps) Γ) b) λ u. passes p (is-free (meaning x)))
   unfolding bindsOf
@@ -258,7 +258,7 @@ module _ (g : Run) where
       let u = behind′ g h l in
       node-one g h l (kids-past g d (omega arith) (silent-name d u sd)
       (params-kids g ps 1 (place-block b) (kids-block b) end fs Γ _ (d .rest) u (omega (arith, below g d)) (subst (λ r. Front g r fs) (sym (name-later d)) f) ia
-      (scope-outer g d refl sd) (λ j ro ro′ w r a sj build.
+      (scope-outer g d refl sd) (λ j ro ro′ w rl ys r a sj lj build.
       let zj : 0 < j = omega (arith, below g d) in
-      kids-then g (seat g r) zj _ (body j ro ro′ w r zj sj) (λ v o k.
+      kids-then g (seat g r) zj _ (body j ro ro′ w rl r zj sj) (λ v o k.
       kids-done g (seat g r .rest) (λ M ag. rw (own M, name-place h, free-rule g q, ← i) (own-pass g n p (is-free (meaning x)) (λ e. tt)))))))

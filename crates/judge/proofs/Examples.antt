@@ -1,30 +1,30 @@
--- Scripts judged by the two passes: 0, or one more than the place of the refused node. The tables are those of the scripts.
+-- Scripts judged by the two passes: 0, or one more than the place of the refused node, and for DOUBLE 65536 more. The tables are those of the scripts.
 use Prim.Native.Nat.{ℕ, _+_, _-_}
 use mathlib.Core.Path.{_≡_, refl}
 use mathlib.Core.List.{List, [], _∷_}
-use lib.Dec.{eqb}
+use lib.Dec.{eqb, ltb}
 use lib.ListN.{length}
 use Rattle.language.specs.Bytes.{bytesOf}
 use Rattle.language.specs.Names.{meaning}
 use Rattle.nodes.specs.Nodes.{nodeAt}
 use Rattle.judge.specs.Names.{sameName, nineAt}
-use Rattle.judge.specs.Scopes.{pick, placeAt, envAt, roleAt, roleIn, rowOf, bindsOf, rowAfter, innerAt, outerAt, give, scopeStep, scopesFrom, scopesOf, binderPlace, findFrom}
+use Rattle.judge.specs.Scopes.{pick, placeAt, envAt, roleAt, behindAt, roleIn, rowOf, bindsOf, rowAfter, innerAt, shownAt, outerAt, give, scopeStep, scopesFrom, scopesOf, binderPlace, findFrom, namedFrom}
 use Rattle.judge.specs.Types.{noteKind, isFun, partsOf, paramType, resultType, sameParts, same, argFits, fitsFrom}
-use Rattle.judge.specs.Rules.{hasKind, binderOf, readType, boundRule, nameRule, refType, targetType, ifRule, boolsRule, oneArg, twoArgs, operated, applied, appRule, adrRule, freeRule, isBase, cellRule, lastFrom, defRule, partRule, setRule, isProc, called, callRule, defBy, statBy, paramBy, exprBy, ownBy}
-use Rattle.judge.specs.Judge.{fineFrom, ruled, noteOf, answer, judgeDown, verdictOf}
+use Rattle.judge.specs.Rules.{hasKind, binderOf, readType, boundRule, nameRule, refType, targetType, ifRule, boolsRule, oneArg, twoArgs, operated, applied, appRule, adrRule, freeRule, isBase, cellRule, singleRule, lastFrom, defRule, partRule, setRule, isProc, called, callRule, defBy, statBy, paramBy, exprBy, ownBy}
+use Rattle.judge.specs.Judge.{fineFrom, ruled, refuses, noteOf, answer, judgeDown, verdictOf}
 
 abbrev zeros : List ℕ → List ℕ
 zeros [] = []
 zeros (a ∷ l) = 0 ∷ zeros l
 
 found : List ℕ → ℕ → ℕ
-found t a = pick (eqb a 0) (λ _. 0) λ _. placeAt t (a - 1) + 1
+found t a = pick (eqb a 0) (λ _. 0) λ _. pick (ltb a 65537) (λ _. placeAt t (a - 1) + 1) λ _. 65536 + placeAt t (a - 65537) + 1
 
 verdict : List ℕ → List ℕ → ℕ
-unfolding found nodeAt sameName nineAt meaning envAt roleAt roleIn rowOf bindsOf rowAfter innerAt outerAt give scopeStep scopesFrom scopesOf
-    binderPlace findFrom noteKind isFun partsOf paramType resultType sameParts same argFits fitsFrom hasKind binderOf readType boundRule
-    nameRule refType targetType ifRule boolsRule oneArg twoArgs operated applied appRule adrRule freeRule isBase cellRule lastFrom defRule
-    partRule setRule isProc called callRule defBy statBy paramBy exprBy ownBy fineFrom ruled noteOf answer judgeDown verdictOf
+unfolding found nodeAt sameName nineAt meaning envAt roleAt behindAt roleIn rowOf bindsOf rowAfter innerAt shownAt outerAt give scopeStep scopesFrom scopesOf
+    binderPlace findFrom namedFrom noteKind isFun partsOf paramType resultType sameParts same argFits fitsFrom hasKind binderOf readType boundRule
+    nameRule refType targetType ifRule boolsRule oneArg twoArgs operated applied appRule adrRule freeRule isBase cellRule singleRule lastFrom defRule
+    partRule setRule isProc called callRule defBy statBy paramBy exprBy ownBy fineFrom ruled refuses noteOf answer judgeDown verdictOf
 verdict x t = found t (verdictOf x t (length t) (zeros t) (zeros t))
 
 abbrev nine-bound-tree : List ℕ
@@ -63,15 +63,15 @@ rec-hides : verdict (bytesOf "[FUN REC f int [f:int] (f 1); ECHO (f 2)]") rec-hi
 unfolding verdict
 rec-hides = refl
 
-abbrev last-counts-tree : List ℕ
-last-counts-tree =
+abbrev doubled-tree : List ℕ
+doubled-tree =
     281474976776192 ∷ 1688854155362320 ∷ 5348050327306243 ∷ 3659213352206341 ∷ 4503646872010752 ∷ 3659239122141191 ∷ 4222197665103872 ∷
     281573761482752 ∷ 2814852846911488 ∷ 5348140521619466 ∷ 281599531483149 ∷ 2251928663490560 ∷ 5066699904647168 ∷ 281638186385408 ∷
     2251967318392832 ∷ 5066738559352832 ∷ 3377910175039488 ∷ 5348256485736466 ∷ 5066790098960403 ∷ 5348273665605632 ∷ []
 
-last-counts : verdict (bytesOf "[PROC p [x:int,x:bool] [IF x [ECHO 1] [ECHO 2]]; CALL p 1 true]") last-counts-tree ≡ 0
+doubled : verdict (bytesOf "[PROC p [x:int,x:bool] [IF x [ECHO 1] [ECHO 2]]; CALL p 1 true]") doubled-tree ≡ 65552
 unfolding verdict
-last-counts = refl
+doubled = refl
 
 abbrev var-function-tree : List ℕ
 var-function-tree =
@@ -174,3 +174,13 @@ one-argument-tree =
 one-argument : verdict (bytesOf "[ECHO (add 1)]") one-argument-tree ≡ 7
 unfolding verdict
 one-argument = refl
+
+-- the name of the REC definition, which hides both
+abbrev doubled-rec-tree : List ℕ
+doubled-rec-tree =
+    281474976776192 ∷ 1125904201941001 ∷ 5348063212208131 ∷ 4503646872010756 ∷ 3659243417042950 ∷ 4503676936781824 ∷ 3659269186977800 ∷
+    4503702706585600 ∷ 5066674134843392 ∷ 2251937253294080 ∷ 5066708494581760 ∷ []
+
+doubled-rec : verdict (bytesOf "[FUN REC f int [f:int,f:int] 1; ECHO 1]") doubled-rec-tree ≡ 65559
+unfolding verdict
+doubled-rec = refl

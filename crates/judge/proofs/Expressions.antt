@@ -30,8 +30,8 @@ use Rattle.judge.proofs.Shapes.{Nodes, end, node, kind-expr, kids-expr,
 use Rattle.judge.proofs.Scoping.{first}
 use Rattle.judge.proofs.Noting.{Agree}
 use Rattle.judge.proofs.Spelling.{pos-not, valuesOf, same-values, Spells, s-bool, s-int, s-fn, same-right, kind-bool, kind-int, spells-fine, no-operator, Gets, parts-row, row-parts, Row, gives-value, gives-ref, Args, args-none, args-more, Fitted, fitted, unfitted, fits-right, spells-move}
-use Rattle.judge.proofs.Verdicts.{Run, One, Kids, Own, own-fine, own-bad, one-map, Ends, ends, kids-bind, Sit, Seat, seat, kids-done, below, behind, kids-then, node-one}
-use Rattle.judge.proofs.Looking.{binds-value, binds-ref, binds-proc, Found, found-none, found, Scope, scope-up, scope-inner, scope-outer, no-front}
+use Rattle.judge.proofs.Verdicts.{Run, said-type, One, Kids, Own, own-fine, own-bad, one-map, Ends, ends, kids-bind, Sit, Seat, seat, kids-done, below, behind, kids-then, node-one}
+use Rattle.judge.proofs.Looking.{binds-value, binds-ref, binds-proc, Found, found-none, found, Scope, scope-up, scope-inner, scope-outer, no-front, Listed}
 use Rattle.judge.proofs.Written.{first-params, params-values, here-low, kind-here, last-part}
 use Rattle.judge.proofs.Parameters.{in-values, params-kids}
 
@@ -109,7 +109,7 @@ module _ (g : Run) where
       → Own g (Has n) n p (pick b (λ _. r) λ _. 65536) (judged p (only b (some τ)))
   unfolding judged only
   own-only M a s true = own-typed M a s
-  own-only M a s false = own-bad refl
+  own-only M a s false = own-bad said-type
 
   bool-note : (M : List ℕ) (lo : ℕ) → Spells g.tree M lo 65551 BOOL
   unfolding noteKind
@@ -138,8 +138,8 @@ module _ (g : Run) where
     where
       by-tests : (A B : Bool) → Own g (Has n) n p (pick A (λ _. pick B (λ _. getD M b 0) λ _. 65536) λ _. 65536) (judged p (only A (only B (some σ))))
       by-tests true true = own-typed M ag u
-      by-tests true false = own-bad refl
-      by-tests false B = own-bad refl
+      by-tests true false = own-bad said-type
+      by-tests false B = own-bad said-type
 
   -- (AND), (OR)
   bools-own : {n p : ℕ} (a b : ℕ) {τ σ : Ty} (M : List ℕ) → Agree (suc n) g.notes M → nextAt g.tree a ≡ b
@@ -150,8 +150,8 @@ module _ (g : Run) where
     where
       by-tests : (A B : Bool) → Own g (Has n) n p (pick A (λ _. pick B (λ _. 65551) λ _. 65536) λ _. 65536) (judged p (only A (only B (some BOOL))))
       by-tests true true = own-typed M ag (bool-note M (suc n))
-      by-tests true false = own-bad refl
-      by-tests false B = own-bad refl
+      by-tests true false = own-bad said-type
+      by-tests false B = own-bad said-type
 
   -- ARGUMENTS
 
@@ -212,8 +212,8 @@ module _ (g : Run) where
   app-own : {n p z : ℕ} (M : List ℕ) (r : ℕ) (τ : Ty) (us : Tys) → Agree (suc n) g.notes M → Spells g.tree M (suc n) r τ → Args g.tree M (suc n) z (valuesOf us)
       → Own g (Has n) n p (applied g.tree M r z) (judged p (app-type τ us))
   unfolding applied isFun judged only
-  app-own M r (base boolean) us ag (s-bool e) a = rw e (own-bad refl)
-  app-own M r (base integer) us ag (s-int e) a = rw e (own-bad refl)
+  app-own M r (base boolean) us ag (s-bool e) a = rw e (own-bad said-type)
+  app-own M r (base integer) us ag (s-int e) a = rw e (own-bad said-type)
   app-own {n} {p} {z} M r (fn ts τ) us ag (s-fn e w) a =
       rw e (by-fit (same-types us ts)
       (subst (Fitted g.tree M (suc n) (Gets g.tree M (suc n) r τ) (fitsFrom g.tree M (length g.tree) (partsOf g.tree r) z)) (same-values us ts)
@@ -222,7 +222,7 @@ module _ (g : Run) where
       by-fit : {y : ℕ} (b : Bool) → Fitted g.tree M (suc n) (Gets g.tree M (suc n) r τ) y b
           → Own g (Has n) n p (pick (eqb y 0) (λ _. 65536) λ _. resultType g.tree M r y) (judged p (only b (some τ)))
       by-fit {y} true (fitted nz s) = rw (ne-eqb y 0 nz) (own-typed M ag (s .1))
-      by-fit false unfitted = own-bad refl
+      by-fit false unfitted = own-bad said-type
 
   app-head : {n p z r : ℕ} (h : ℕ) (M : List ℕ) (τ : Ty) (us : Tys) → Agree (suc n) g.notes M → nextAt g.tree h ≡ z → getD M h 0 ≡ r
       → Spells g.tree M (suc n) r τ
@@ -249,23 +249,23 @@ module _ (g : Run) where
   found-own : {n p b : ℕ} (M : List ℕ) (o : Option Entity) → Agree (suc n) g.notes M → Found g o b
       → Own g (Has n) n p (pick (eqb b 0) (λ _. 65536) λ _. readType g.tree b) (judged p (read-type o))
   unfolding judged
-  found-own M none ag found-none = own-bad refl
+  found-own M none ag found-none = own-bad said-type
   found-own {n} M (some (plain (value τ))) ag (found {b = b} nz (binds-value r e f w x y)) = rw (ne-eqb b 0 nz, e) (own-typed M ag (w M (suc n)))
   found-own {n} M (some (plain (ref τ))) ag (found {b = b} nz (binds-ref r e f w x y z)) = rw (ne-eqb b 0 nz, e) (own-typed M ag (w M (suc n)))
-  found-own M (some (procedure qs)) ag (found {b = b} nz (binds-proc e x y z)) = rw (ne-eqb b 0 nz, e) (own-bad refl)
+  found-own M (some (procedure qs)) ag (found {b = b} nz (binds-proc e x y z)) = rw (ne-eqb b 0 nz, e) (own-bad said-type)
 
   name-own : {n p b : ℕ} (role : ℕ) (M : List ℕ) (m : Meaning) (o : Option Entity) → Agree (suc n) g.notes M → Judges role (operator-of m) → Found g o b
       → Own g (Has n) n p (named-by role (meaningNo m) b) (judged p (name-type m (unless-nine m o)))
   unfolding judged
   name-own {n} role M (literal true) o ag j f = rw (j .0) (own-typed M ag (bool-note M (suc n)))
   name-own {n} role M (literal false) o ag j f = rw (j .0) (own-typed M ag (bool-note M (suc n)))
-  name-own role M (operator not) o ag j f = rw (j .0, j .1 not refl) (own-bad refl)
-  name-own role M (operator eq) o ag j f = rw (j .0, j .1 eq refl) (own-bad refl)
-  name-own role M (operator lt) o ag j f = rw (j .0, j .1 lt refl) (own-bad refl)
-  name-own role M (operator add) o ag j f = rw (j .0, j .1 add refl) (own-bad refl)
-  name-own role M (operator sub) o ag j f = rw (j .0, j .1 sub refl) (own-bad refl)
-  name-own role M (operator mul) o ag j f = rw (j .0, j .1 mul refl) (own-bad refl)
-  name-own role M (operator div) o ag j f = rw (j .0, j .1 div refl) (own-bad refl)
+  name-own role M (operator not) o ag j f = rw (j .0, j .1 not refl) (own-bad said-type)
+  name-own role M (operator eq) o ag j f = rw (j .0, j .1 eq refl) (own-bad said-type)
+  name-own role M (operator lt) o ag j f = rw (j .0, j .1 lt refl) (own-bad said-type)
+  name-own role M (operator add) o ag j f = rw (j .0, j .1 add refl) (own-bad said-type)
+  name-own role M (operator sub) o ag j f = rw (j .0, j .1 sub refl) (own-bad said-type)
+  name-own role M (operator mul) o ag j f = rw (j .0, j .1 mul refl) (own-bad said-type)
+  name-own role M (operator div) o ag j f = rw (j .0, j .1 div refl) (own-bad said-type)
   name-own role M free o ag j f = rw (j .0) (found-own M o ag f)
 
   -- an operator's name as a head
@@ -326,6 +326,10 @@ module _ (g : Run) where
 
   pub plain-role : (o : Option Op) → Judges 0 o
   plain-role o = (refl, (λ f e. refl))
+
+  -- behind parameters
+  pub listed-role : {n role : ℕ} {xs : List Name} → Listed g n role xs → (o : Option Op) → Judges role o
+  listed-role i o = (i .silent, λ f e. i .head)
 
   head-role : Judges 2 none
   head-role = (refl, (λ f e. absurd (Option·none-ne-some _ e)))
@@ -467,10 +471,10 @@ module _ (g : Run) where
         let c = h .child ∙ first-params (values ps) (kind-expr e) (place-expr e) (kids-expr e) end (suc n) in
         fit-one (abs p ps e) Γ q (node-one g h l
         (params-kids g (values ps) (kind-expr e) (place-expr e) (kids-expr e) end [] Γ _ (h .kids) u (omega arith) (no-front (no-row n row (h .kind)))
-        (in-values ps (Stands g.text) (s .0)) (scope-inner g h {role = 0} refl refl (scope-up g (omega arith) sc)) (λ i ro ro′ w k y si build.
+        (in-values ps (Stands g.text) (s .0)) (scope-inner g h {role = 0} refl refl (scope-up g (omega arith) sc)) (λ i ro ro′ w rl ys k y si li build.
         let d = seat g k in
         let zi : 0 < i = omega arith in
-        kids-then g d zi _ (expr-one e d u zi si (plain-role (head-operator e)) (s .1) qe) (λ τ r t.
+        kids-then g d zi _ (expr-one e d u zi si (listed-role li (head-operator e)) (s .1) qe) (λ τ r t.
         kids-done g (d .rest) (λ M ag.
         own-fine (node-fine h l z) (λ e. rw e (abs-spells ps τ h l c (build g.notes n (Gets g.tree g.notes n n τ)
         (last-part g g.notes n (Gets g.tree g.notes n n τ) d u zi

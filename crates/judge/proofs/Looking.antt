@@ -1,5 +1,5 @@
 -- The binders that a node's scope leads to are the names in force there: a look-up along the scopes is a look-up among the names.
-use Prim.Native.Nat.{ℕ, zero, suc, _+_, _*_, _/_, _%_, _<_, _≤_}
+use Prim.Native.Nat.{ℕ, zero, suc, _+_, _-_, _*_, _/_, _%_, _<_, _≤_}
 use mathlib.Core.Path.{_≡_, refl, ap, sym, _∙_, subst}
 use mathlib.Core.Bool.{Bool, true, false, cond}
 use mathlib.Core.List.{List, [], _∷_, _++_}
@@ -13,11 +13,11 @@ use Rattle.language.specs.Bytes.{same-bytes}
 use Rattle.language.specs.Names.{not, eq, lt, add, sub, mul, div, Meaning, literal, operator, free, lookup, meaning, unless-nine}
 use Rattle.language.specs.Words.{nameAt}
 use Rattle.language.specs.Types.{Ty, Par, value, ref, Entity, plain, procedure, Ctx, find}
-use Rattle.language.specs.Typing.{IsBase}
+use Rattle.language.specs.Typing.{IsBase, among}
 use Rattle.language.proofs.typing.Names.{same-names}
 use Rattle.nodes.specs.Names.{meaningNo}
 use Rattle.judge.specs.Names.{sameName, nineAt}
-use Rattle.judge.specs.Scopes.{pick, kindAt, placeAt, childAt, nextAt, envAt, roleIn, rowOf, bindsOf, innerAt, outerAt, binderPlace, findFrom}
+use Rattle.judge.specs.Scopes.{pick, kindAt, placeAt, childAt, nextAt, envAt, roleAt, behindAt, roleIn, rowOf, bindsOf, innerAt, shownAt, outerAt, binderPlace, findFrom, namedFrom}
 use Rattle.judge.specs.Rules.{binderOf, readType, refType, isProc}
 use Rattle.judge.proofs.Shapes.{Nodes}
 use Rattle.judge.proofs.Spelling.{pos-not, Spells, Row}
@@ -96,6 +96,36 @@ module _ (g : Run) where
       by-test true f = found (pos-not b (omega arith)) i
       by-test false f = f
 
+  -- the parameters from e on, the latest first, have the names xs
+  abbrev pub Names : ℕ → List Name → Type 0
+  Names e xs = (n : ℕ) → e ≤ n → (p : ℕ) → namedFrom g.text g.tree g.scopes p n e ≡ among (nameAt g.text p) xs
+
+  names-none : Names 0 []
+  unfolding namedFrom
+  names-none zero l p = refl
+  names-none (suc n) l p = refl
+
+  names-more : (b : ℕ) (xs : List Name) (y : Name) → behindAt g.scopes b < b → nameAt g.text (placeAt g.tree b) ≡ y → Names (behindAt g.scopes b) xs
+      → Names b (y ∷ xs)
+  unfolding namedFrom sameName
+  names-more b xs y l e k zero u p = absurd (omega arith)
+  names-more b xs y l e k (suc n) u p =
+      rw (ne-eqb b 0 (λ z. omega arith), e, k n (omega arith) p) (by-test (same-bytes y (nameAt g.text p)) (among (nameAt g.text p) xs))
+    where
+      by-test : (o a : Bool) → pick o (λ _. true) (λ _. a) ≡ cond o true a
+      by-test true a = refl
+      by-test false a = refl
+
+  -- the role of a node in a parameter list or behind it, after the parameters with the names xs
+  pub record Listed (n role : ℕ) (xs : List Name) : Type 0 where
+    pub silent : eqb role 1 ≡ false
+    pub head : eqb role 2 ≡ false
+    pub low : role - 2 < n
+    pub names : Names (role - 2) xs
+
+  pub first-listed : {n : ℕ} → 0 < n → Listed n 0 []
+  first-listed z = record { silent = refl; head = refl; low = omega arith; names = names-none }
+
   -- the nine names are looked up nowhere
   unfoldable nine : ℕ → ℕ → ℕ
   nine k b = pick (eqb k 0) (λ _. b) λ _. 0
@@ -167,31 +197,54 @@ module _ (g : Run) where
     unfolding binderPlace
     param-place = rw (h .kind, e, h .place)
 
-    param-binds : {y : Name} {τ : Entity} {Γ : Ctx} → nameAt g.text p ≡ y → Binder n τ → Scope n v 0 Γ → Looks n ((y, τ) ∷ Γ)
-    param-binds {y} {τ} {Γ} f b q =
+    param-binds : {role : ℕ} {y : Name} {τ : Entity} {Γ : Ctx} → nameAt g.text p ≡ y → Binder n τ → Scope n v role Γ → Looks n ((y, τ) ∷ Γ)
+    param-binds {y = y} {τ} {Γ} f b q =
         looks-more n Γ y τ (rw env-is′ (q .low)) (ap (nameAt g.text) param-place ∙ f) b (rw env-is′ (q .looks))
       where
         env-is′ : envAt g.scopes n ≡ v % 65536
         env-is′ = env-is h
 
     -- the node after a parameter
-    pub scope-param : {y : Name} {τ : Entity} {fs : Ctx} (Δ : Ctx) → n < 65536 → nameAt g.text p ≡ y → Binder n τ → Front row fs → Scope n v 0 (fs ++ Δ)
-        → Scope (h .mid) (outerAt g.text g.tree g.scopes row n) 0 (fs ++ ((y, τ) ∷ Δ))
-    unfolding outerAt sameName
-    scope-param {y} {τ} Δ l f b (no-front z) q =
-        scope-of _ 0 n (h .mid) ((y, τ) ∷ Δ) (rw (h .kind, e, z) (omega arith)) l (below g h) (param-binds f b q)
-    scope-param {y} {τ} Δ l f b (rec-front {f = d} {F} z w) q =
+    pub scope-param : {role : ℕ} {y : Name} {τ : Entity} {fs : Ctx} (Δ : Ctx) → n < 65536 → nameAt g.text p ≡ y → Binder n τ → Front row fs
+        → Scope n v role (fs ++ Δ) → Scope (h .mid) (outerAt g.text g.tree g.scopes row n) (n + 2) (fs ++ ((y, τ) ∷ Δ))
+    unfolding outerAt shownAt sameName
+    scope-param {y = y} {τ} Δ l f b (no-front z) q =
+        scope-of _ (n + 2) n (h .mid) ((y, τ) ∷ Δ) (rw (h .kind, e, z) (omega arith)) l (below g h) (param-binds f b q)
+    scope-param {y = y} {τ} Δ l f b (rec-front {f = d} {F} z w) q =
         by-test (same-bytes y d) refl
       where
         Next : Type 0
-        Next = Scope (h .mid) (outerAt g.text g.tree g.scopes row n) 0 ((d, F) ∷ (y, τ) ∷ Δ)
+        Next = Scope (h .mid) (outerAt g.text g.tree g.scopes row n) (n + 2) ((d, F) ∷ (y, τ) ∷ Δ)
 
         by-test : (o : Bool) → same-bytes y d ≡ o → Next
         by-test true i =
-            scope-of _ 0 (v % 65536) (h .mid) ((d, F) ∷ (y, τ) ∷ Δ) (rw (h .kind, e, ne-eqb row 0 z, h .place, f, w, i) (omega (arith, env-is h))) (omega arith)
+            scope-of _ (n + 2) (v % 65536) (h .mid) ((d, F) ∷ (y, τ) ∷ Δ) (rw (h .kind, e, ne-eqb row 0 z, h .place, f, w, i) (omega (arith, env-is h))) (omega arith)
             (let u = q .low in omega (arith, below g h))
             (looks-same (v % 65536) ((d, F) ∷ Δ) ((d, F) ∷ (y, τ) ∷ Δ)
             (λ u. subst (λ a. lookup ((d, F) ∷ Δ) u ≡ lookup ((d, F) ∷ (a, τ) ∷ Δ) u) (sym (same-name y d i)) (hidden d τ F Δ u)) (q .looks))
         by-test false i =
-            scope-of _ 0 n (h .mid) ((d, F) ∷ (y, τ) ∷ Δ) (rw (h .kind, e, ne-eqb row 0 z, h .place, f, w, i) (omega arith)) l (below g h)
+            scope-of _ (n + 2) n (h .mid) ((d, F) ∷ (y, τ) ∷ Δ) (rw (h .kind, e, ne-eqb row 0 z, h .place, f, w, i) (omega arith)) l (below g h)
             (looks-same n ((y, τ) ∷ (d, F) ∷ Δ) ((d, F) ∷ (y, τ) ∷ Δ) (λ u. swapped y d τ F Δ u i) (param-binds f b q))
+
+    -- the parameters before it, and before the node behind it
+    behind-is : {role : ℕ} {Γ : Ctx} → Scope n v role Γ → behindAt g.scopes n ≡ role - 2
+    unfolding behindAt roleAt
+    behind-is q = rw (h .scope, q .role-is)
+
+    pub named-is : {role : ℕ} {xs : List Name} {Γ : Ctx} → n ≤ length g.tree → Scope n v role Γ → Listed n role xs
+        → namedFrom g.text g.tree g.scopes p (length g.tree) (behindAt g.scopes n) ≡ among (nameAt g.text p) xs
+    named-is u q i = rw (behind-is q) (i .names (length g.tree) (let l = i .low in omega arith) p)
+
+    pub next-listed : {role : ℕ} {xs : List Name} {y : Name} {Γ : Ctx} → 0 < n → nameAt g.text p ≡ y → Scope n v role Γ → Listed n role xs
+        → Listed (h .mid) (n + 2) (y ∷ xs)
+    next-listed {role} {xs} {y} z f q i =
+        record {
+          silent = ne-eqb (n + 2) 1 (λ e. omega arith);
+          head = ne-eqb (n + 2) 2 (λ e. omega arith);
+          low = omega (arith, below g h);
+          names = subst (λ e. Names e (y ∷ xs)) (less n)
+              (names-more n xs y (rw (behind-is q) (i .low)) (ap (nameAt g.text) (h .place) ∙ f) (rw (behind-is q) (i .names)));
+        }
+      where
+        less : (n : ℕ) → n ≡ n + 2 - 2
+        less n = omega arith

@@ -1,30 +1,28 @@
 -- The backward pass gives each node its note, by the notes of those behind it, and answers with the first refused node in the text.
-use Prim.Native.Nat.{ℕ, zero, suc, _+_, _<_, _≤_}
-use mathlib.Core.Path.{_≡_, refl, ap, sym, _∙_, subst}
+use Prim.Native.Nat.{ℕ, zero, suc, _+_, _-_, _<_, _≤_}
+use mathlib.Core.Path.{_≡_, refl, ap, _∙_, subst}
 use mathlib.Core.Bool.{Bool, true, false}
 use mathlib.Core.List.{List}
 use mathlib.Core.Logic.{⊎-elim}
 use native.Mathlib.Omega.{arith}
-use lib.Dec.{eqb}
 use lib.ListN.{length, getD, set, length-set}
 use lib.Seq.{getD-set-same, getD-set-other}
-use borrow.Author.Tests.{eqb-true, eqb-false}
 use Rattle.nodes.proofs.Links.{below-or-not}
 use Rattle.judge.specs.Scopes.{pick}
-use Rattle.judge.specs.Judge.{noteOf, answer, judgeDown}
+use Rattle.judge.specs.Judge.{refuses, noteOf, answer, judgeDown}
 
 -- equal notes from n on
 abbrev pub Agree : ℕ → List ℕ → List ℕ → Type 0
 Agree n N M = (j : ℕ) → n ≤ j → getD N j 0 ≡ getD M j 0
 
--- no node's own rule is refused from lo up to hi
+-- no node is refused itself from lo up to hi
 abbrev pub Clean : List ℕ → ℕ → ℕ → Type 0
-Clean N lo hi = (j : ℕ) → lo ≤ j → j < hi → getD N j 0 ≡ 65536 → ⊥
+Clean N lo hi = (j : ℕ) → lo ≤ j → j < hi → refuses (getD N j 0) ≡ false
 
 -- the answer over the first i nodes, where it was `before` from those behind them
 pub data Answers (N : List ℕ) (i before : ℕ) : ℕ → Type 0 where
   none-refused : Clean N 0 i → Answers N i before before
-  first-refused : (j : ℕ) → j < i → getD N j 0 ≡ 65536 → Clean N 0 j → Answers N i before (j + 1)
+  first-refused : (j : ℕ) → j < i → refuses (getD N j 0) ≡ true → Clean N 0 j → Answers N i before (getD N j 0 + j - 65535)
 
 module _ (x t S : List ℕ) where
   -- the note of i is by a table that has the same notes behind i
@@ -64,17 +62,17 @@ module _ (x t S : List ℕ) where
       here : (i j : ℕ) → j < suc i → i ≤ j → i ≡ j
       here i j h b = omega arith
 
-  clean-more : (N : List ℕ) (lo i : ℕ) → Clean N lo i → (getD N i 0 ≡ 65536 → ⊥) → Clean N lo (suc i)
-  clean-more N lo i c z j l h e = ⊎-elim (λ b. c j l b e) (λ b. z (ap (λ k. getD N k 0) (here i j h b) ∙ e)) (below-or-not j i)
+  clean-more : (N : List ℕ) (lo i : ℕ) → Clean N lo i → refuses (getD N i 0) ≡ false → Clean N lo (suc i)
+  clean-more N lo i c z j l h = ⊎-elim (λ b. c j l b) (λ b. subst (λ k. refuses (getD N k 0) ≡ false) (here i j h b) z) (below-or-not j i)
     where
       here : (i j : ℕ) → j < suc i → i ≤ j → i ≡ j
       here i j h b = omega arith
 
   pub down-answers : (i at : ℕ) (N : List ℕ) → i ≤ length N → Answers (judgeDown x t S i at N .notes) i at (judgeDown x t S i at N .at)
   unfolding judgeDown answer
-  down-answers zero at N l = none-refused (λ j a b e. absurd (omega arith))
+  down-answers zero at N l = none-refused (λ j a b. absurd (omega arith))
   down-answers (suc i) at N l =
-      by-rule (eqb r 65536) refl (answer r i at) refl (down-answers i (answer r i at) (set N i r) (set-long i i N r (omega arith)))
+      by-rule (refuses r) refl (answer r i at) refl (down-answers i (answer r i at) (set N i r) (set-long i i N r (omega arith)))
     where
       r : ℕ
       r = noteOf x t S N i
@@ -82,9 +80,10 @@ module _ (x t S : List ℕ) where
       final : List ℕ
       final = judgeDown x t S (suc i) at N .notes
 
-      by-rule : (b : Bool) → eqb r 65536 ≡ b → (at′ : ℕ) → pick b (λ _. i + 1) (λ _. at) ≡ at′ → {a : ℕ} → Answers final i at′ a → Answers final (suc i) at a
+      by-rule : (b : Bool) → refuses r ≡ b → (at′ : ℕ) → pick b (λ _. r + i - 65535) (λ _. at) ≡ at′ → {a : ℕ} → Answers final i at′ a → Answers final (suc i) at a
       by-rule b e at′ f (first-refused j h g c) = first-refused j (omega arith) g c
       by-rule true e at′ f (none-refused c) =
-          subst (λ a. Answers final (suc i) at a) f (first-refused i (omega arith) (step-note i at N l ∙ eqb-true r 65536 e) c)
+          subst (λ a. Answers final (suc i) at a) (ap (λ k. k + i - 65535) (step-note i at N l) ∙ f)
+          (first-refused i (omega arith) (ap refuses (step-note i at N l) ∙ e) c)
       by-rule false e at′ f (none-refused c) =
-          subst (λ a. Answers final (suc i) at a) f (none-refused (clean-more final 0 i c (λ g. eqb-false r 65536 e (sym (step-note i at N l) ∙ g))))
+          subst (λ a. Answers final (suc i) at a) f (none-refused (clean-more final 0 i c (ap refuses (step-note i at N l) ∙ e)))

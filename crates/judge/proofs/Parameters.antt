@@ -5,28 +5,29 @@ use mathlib.Core.Bool.{Bool, true, false}
 use mathlib.Core.List.{List, [], _∷_, _++_}
 use native.Mathlib.Omega.{arith}
 use lib.Dec.{eqb}
+use lib.ListN.{length}
 use borrow.Author.Tests.{ne-eqb}
 use Rattle.language.specs.Answers.{Result, fine, refuse}
-use Rattle.language.specs.Syntax.{at, TypeTree, bool, int, arrow, TypeTrees, one-type, more-types, Arg, arg, ArgP, val-arg, var-arg}
+use Rattle.language.specs.Syntax.{Name, at, TypeTree, bool, int, arrow, TypeTrees, one-type, more-types, Arg, arg, ArgP, val-arg, var-arg}
 use Rattle.language.specs.Places.{place-param}
 use Rattle.language.specs.Names.{not, eq, lt, add, sub, mul, div, Meaning, literal, operator, free, meaning}
 use Rattle.language.specs.Words.{Word, nameAt}
 use Rattle.language.specs.Types.{Ty, base, fn, typeOf, plain, Ctx, extend, values, par, pars, param-name, declared}
-use Rattle.language.specs.Typing.{IsBase}
+use Rattle.language.specs.Typing.{IsBase, among}
 use Rattle.language.proofs.reading.Standing.{Stands, inArg, inArgs, inArgP, inArgsP}
 use Rattle.language.proofs.reading.Payload.{name-stands}
-use Rattle.language.proofs.typing.Judge.{andThen, judged, only, passes, andb, is-free, is-base, declarable, judge-params}
+use Rattle.language.proofs.typing.Judge.{andThen, judged, only, passes, single, andb, is-free, is-base, declarable, judge-after}
 use Rattle.nodes.specs.Names.{meaningNo}
 use Rattle.judge.specs.Names.{nineAt}
 use Rattle.judge.specs.Scopes.{pick, kindAt, rowOf, bindsOf, rowAfter, innerAt}
 use Rattle.judge.specs.Types.{paramType}
-use Rattle.judge.specs.Rules.{readType, refType, isProc, isBase, freeRule, cellRule, paramBy, ownBy}
+use Rattle.judge.specs.Rules.{readType, refType, isProc, isBase, freeRule, cellRule, singleRule, paramBy, ownBy}
 use Rattle.judge.proofs.Shapes.{Nodes, end, node, kind-type, place-type, kids-type, types-row, type-row, kind-param, type-param, params-row}
 use Rattle.judge.proofs.Scoping.{sits-end}
 use Rattle.judge.proofs.Spelling.{Takes, takes-value, takes-ref, Row}
-use Rattle.judge.proofs.Verdicts.{Run, One, Kids, Own, own-fine, own-bad, Sit, Seat, seat, kids-done, below, behind, kids-then, kids-past, node-one}
-use Rattle.judge.proofs.Looking.{Written, Binder, binds-value, binds-ref, Scope, Front, scope-param}
-use Rattle.judge.proofs.Written.{first-params, type-one, here-low, last-part, part-more, type-written}
+use Rattle.judge.proofs.Verdicts.{Run, said-type, said-double, One, Kids, Own, own-fine, own-bad, Sit, Seat, seat, kids-done, below, behind, kids-then, kids-past, node-one}
+use Rattle.judge.proofs.Looking.{Written, Binder, binds-value, binds-ref, Scope, Front, Listed, first-listed, scope-param, named-is, next-listed}
+use Rattle.judge.proofs.Written.{first-params, type-one, here-low, here-in, last-part, part-more, type-written}
 
 -- names that are free to be bound, and base types
 pub nine-free : (m : Meaning) → eqb (meaningNo m) 0 ≡ is-free m
@@ -55,10 +56,13 @@ pub both-true : (a b : Bool) → andb a b ≡ true → (a ≡ true) × (b ≡ tr
 both-true true b h = (refl, h)
 both-true false b h = let z : _≡_ {A = ℕ} 0 1 = cc in absurd (omega arith)
 
-pub then-assoc : {A B C : Type 0} (r : Result A) (f : A → Result B) (k : B → Result C) → andThen (andThen r f) k ≡ andThen r (λ a. andThen (f a) k)
+-- two tests, and then the others
+then-others : {A B C D : Type 0} (r : Result A) (s : Result B) (o : Result C) (k : C → Result D)
+    → andThen (andThen r λ u. s) (λ v. andThen o k) ≡ andThen (andThen r λ u. andThen s λ v. o) k
 unfolding andThen
-then-assoc (fine a) f k = refl
-then-assoc (refuse c p) f k = refl
+then-others (fine a) (fine b) o k = refl
+then-others (fine a) (refuse c p) o k = refl
+then-others (refuse c p) s o k = refl
 
 pub in-values : (ps : List Arg) (P : Word → Type 0) → inArgs ps P → inArgsP (values ps) P
 unfolding inArgs inArg inArgsP inArgP
@@ -69,7 +73,15 @@ in-values (arg x t ∷ ps) P h = (h .0, in-values ps P (h .1))
 pub own-pass : (g : Run) {P : Unit {0} → Type 0} (n p : ℕ) (b : Bool) → (b ≡ true → P tt) → Own g P n p (pick b (λ _. 65537) λ _. 65536) (passes p b)
 unfolding passes judged only
 own-pass g n p true f = own-fine refl (λ e. f refl)
-own-pass g n p false f = own-bad refl
+own-pass g n p false f = own-bad said-type
+
+-- a parameter: its own test, and that its name is none of those before it
+own-single : (g : Run) {P : Unit {0} → Type 0} (n p : ℕ) (d b : Bool) → (d ≡ true → P tt)
+    → Own g P n p (pick (eqb (pick d (λ _. 65537) λ _. 65536) 65537) (λ _. pick b (λ _. 131072) λ _. 65537) λ _. 65536) (andThen (passes p d) λ u. single p b)
+unfolding passes judged only single andThen
+own-single g n p true true f = own-bad said-double
+own-single g n p true false f = own-fine refl (λ e. f refl)
+own-single g n p false b f = own-bad said-type
 
 module _ (g : Run) where
   -- the name at p is free, and a cell may have the type at y
@@ -176,34 +188,50 @@ module _ (g : Run) where
       (rw (h .kind, h .child))
       (base-true (typeOf t) (both-true (is-free (meaning x)) (is-base (typeOf t)) d .1)) (rw (h .kind))
 
-  param-one : (a : ArgP) {n m row row′ v : ℕ} {s : Nodes} (h : Seat g (kind-param a) (place-param a) (type-row (type-param a) end) s n m row row′ v)
-      → m ≤ g.count
-      → inArgP a (Stands g.text) → One g (λ u. declarable a ≡ true) n (h .mid) (passes (place-param a) (declarable a))
-  unfolding ownBy paramBy inArgP
-  param-one (val-arg (at p x) t) {n} h l s =
-      let d = seat g (h .kids) in
-      node-one g h l (kids-past g d (omega arith) (type-one g t d (omega (arith, behind g h))) (kids-done g (d .rest) (λ M a.
-      rw (h .place, free-rule p, ← name-stands s) (own-pass g n p (is-free (meaning x)) (λ e. e)))))
-  param-one (var-arg (at p x) t) {n} h l s =
-      let d = seat g (h .kids) in
-      node-one g h l (kids-past g d (omega arith) (type-one g t d (omega (arith, behind g h))) (kids-done g (d .rest) (λ M a.
-      rw (h .place, h .child, cell-rule t p (suc n) (d .kind), ← name-stands s) (own-pass g n p (andb (is-free (meaning x)) (is-base (typeOf t))) (λ e. e)))))
+  before-in : {k p n m row row′ v : ℕ} {c s : Nodes} → Seat g k p c s n m row row′ v → m ≤ g.count → n ≤ length g.tree
+  before-in h l = omega (arith, here-in g h l)
 
-  -- parameters, and then what follows them in the scope of their names; with it they are a row of parameters
+  param-one : (a : ArgP) {n m row row′ v role : ℕ} {s : Nodes} {xs : List Name} {Γ : Ctx}
+      (h : Seat g (kind-param a) (place-param a) (type-row (type-param a) end) s n m row row′ v)
+      → m ≤ g.count → Scope g n v role Γ → Listed g n role xs → inArgP a (Stands g.text)
+      → One g (λ u. declarable a ≡ true) n (h .mid) (andThen (passes (place-param a) (declarable a)) λ u. single (place-param a) (among (param-name a) xs))
+  unfolding ownBy paramBy singleRule inArgP
+  param-one (val-arg (at p x) t) {n} {xs = xs} h l sc i s =
+      let d = seat g (h .kids) in
+      node-one g h l (kids-past g d (omega arith) (type-one g t d (omega (arith, behind g h))) (kids-done g (d .rest) (λ M a.
+      rw (h .place, free-rule p, named-is g h (param-binds-name (val-arg (at p x) t)) (before-in h l) sc i, ← name-stands s) (own-single g n p (is-free (meaning x)) (among x xs) (λ e. e)))))
+  param-one (var-arg (at p x) t) {n} {xs = xs} h l sc i s =
+      let d = seat g (h .kids) in
+      node-one g h l (kids-past g d (omega arith) (type-one g t d (omega (arith, behind g h))) (kids-done g (d .rest) (λ M a.
+      rw (h .place, h .child, cell-rule t p (suc n) (d .kind), named-is g h (param-binds-name (var-arg (at p x) t)) (before-in h l) sc i, ← name-stands s)
+      (own-single g n p (andb (is-free (meaning x)) (is-base (typeOf t))) (among x xs) (λ e. e)))))
+
+  -- parameters behind those with the names xs, and then what follows them in the scope of their names; with it they are a row of parameters
+  params-after : (xs : List Name) (ps : List ArgP) (k₀ p₀ : ℕ) (c₀ s₀ : Nodes) {n hi row row′ v role : ℕ} {A : Type 0} {K : Result A → Type 0} (fs Δ : Ctx)
+      (k : Unit {0} → Result A)
+      → Sit g (params-row ps (node k₀ p₀ c₀ s₀)) n hi row row′ v → hi ≤ g.count → 0 < n → Front g row fs → inArgsP ps (Stands g.text)
+      → Scope g n v role (fs ++ Δ) → Listed g n role xs
+      → ((i ro ro′ w rl : ℕ) (ys : List Name) → Sit g (node k₀ p₀ c₀ s₀) i hi ro ro′ w → n ≤ i → Scope g i w rl (fs ++ extend (declared ps) Δ) → Listed g i rl ys
+      → ((M : List ℕ) (lo : ℕ) (L : ℕ → Type 0) → Row g.tree M lo L i [] → Row g.tree M lo L n (pars ps)) → Kids g K (node k₀ p₀ c₀ s₀) i hi (k tt))
+      → Kids g K (params-row ps (node k₀ p₀ c₀ s₀)) n hi (andThen (judge-after xs ps) k)
+  unfolding judge-after andThen inArgsP
+  params-after xs [] k₀ p₀ c₀ s₀ fs Δ k q l z r i sc li f = f _ _ _ _ _ xs q (omega arith) sc li (λ M lo L r. r)
+  params-after xs (a ∷ ps) k₀ p₀ c₀ s₀ {n} {hi} {row} {row′} {K = K} fs Δ k q l z r i sc li f =
+      let h = seat g q in
+      let w = param-named a (i .0) in
+      subst (λ o. Kids g K (params-row (a ∷ ps) (node k₀ p₀ c₀ s₀)) n hi o)
+      (then-others (passes (place-param a) (declarable a)) (single (place-param a) (among (param-name a) xs)) (judge-after (param-name a ∷ xs) ps) k)
+      (kids-then g h z (λ u. andThen (judge-after (param-name a ∷ xs) ps) k) (param-one a h l sc li (i .0)) (λ u e d.
+      params-after (param-name a ∷ xs) ps k₀ p₀ c₀ s₀ fs ((param-name a, plain (par a)) ∷ Δ) k (h .rest) l (omega (arith, below g h))
+      (subst (λ ro. Front g ro fs) (sym (param-later a h)) r)
+      (i .1) (scope-param g h (param-binds-name a) Δ (here-low g h l) w (param-binder a h l d) r sc) (next-listed g h (param-binds-name a) z w sc li)
+      (λ j ro ro′ w rl ys b y sj lj build. f j ro ro′ w rl ys b (omega (arith, below g h)) sj lj (λ M lo L row.
+      part-more g M lo L h (first-params ps k₀ p₀ c₀ s₀ (h .mid)) (param-takes a M lo h l) (build M lo L row)))))
+
   pub params-kids : (ps : List ArgP) (k₀ p₀ : ℕ) (c₀ s₀ : Nodes) {n hi row row′ v : ℕ} {A : Type 0} {K : Result A → Type 0} (fs Δ : Ctx)
       (k : Unit {0} → Result A)
       → Sit g (params-row ps (node k₀ p₀ c₀ s₀)) n hi row row′ v → hi ≤ g.count → 0 < n → Front g row fs → inArgsP ps (Stands g.text) → Scope g n v 0 (fs ++ Δ)
-      → ((i ro ro′ w : ℕ) → Sit g (node k₀ p₀ c₀ s₀) i hi ro ro′ w → n ≤ i → Scope g i w 0 (fs ++ extend (declared ps) Δ)
+      → ((i ro ro′ w rl : ℕ) (ys : List Name) → Sit g (node k₀ p₀ c₀ s₀) i hi ro ro′ w → n ≤ i → Scope g i w rl (fs ++ extend (declared ps) Δ) → Listed g i rl ys
       → ((M : List ℕ) (lo : ℕ) (L : ℕ → Type 0) → Row g.tree M lo L i [] → Row g.tree M lo L n (pars ps)) → Kids g K (node k₀ p₀ c₀ s₀) i hi (k tt))
-      → Kids g K (params-row ps (node k₀ p₀ c₀ s₀)) n hi (andThen (judge-params ps) k)
-  unfolding judge-params andThen inArgsP
-  params-kids [] k₀ p₀ c₀ s₀ fs Δ k q l z r i sc f = f _ _ _ _ q (omega arith) sc (λ M lo L r. r)
-  params-kids (a ∷ ps) k₀ p₀ c₀ s₀ {n} {hi} {row} {row′} {K = K} fs Δ k q l z r i sc f =
-      let h = seat g q in
-      subst (λ o. Kids g K (params-row (a ∷ ps) (node k₀ p₀ c₀ s₀)) n hi o) (sym (then-assoc (passes (place-param a) (declarable a)) (λ u. judge-params ps) k))
-      (kids-then g h z (λ u. andThen (judge-params ps) k) (param-one a h l (i .0)) (λ u e d.
-      params-kids ps k₀ p₀ c₀ s₀ fs ((param-name a, plain (par a)) ∷ Δ) k (h .rest) l (omega (arith, below g h))
-      (subst (λ ro. Front g ro fs) (sym (param-later a h)) r)
-      (i .1) (scope-param g h (param-binds-name a) Δ (here-low g h l) (param-named a (i .0)) (param-binder a h l d) r sc)
-      (λ j ro ro′ w b y sj build. f j ro ro′ w b (omega (arith, below g h)) sj (λ M lo L row.
-      part-more g M lo L h (first-params ps k₀ p₀ c₀ s₀ (h .mid)) (param-takes a M lo h l) (build M lo L row)))))
+      → Kids g K (params-row ps (node k₀ p₀ c₀ s₀)) n hi (andThen (judge-after [] ps) k)
+  params-kids ps k₀ p₀ c₀ s₀ fs Δ k q l z r i sc f = params-after [] ps k₀ p₀ c₀ s₀ fs Δ k q l z r i sc (first-listed g z) f

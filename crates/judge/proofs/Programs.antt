@@ -112,7 +112,7 @@ module _ (g : Run) where
         one-map g (λ u r f. def-looks g h l sc refl w (proc-binder g ps b h l refl refl refl refl refl refl))
         (proc-one g 6 p i x ps b [] Γ h l (λ M. refl) (scope-inner g h {role = 1} refl refl (scope-up g (omega arith) sc)) (no-rec n row (h .kind) refl) w
         (s .1)
-        (λ j ro ro′ y r zj sj. block-one b (seat g r) (behind′ g h l) (scope-up g (omega arith) sj) (s .2) qb))
+        (λ j ro ro′ y rl r zj sj. block-one b (seat g r) (behind′ g h l) (scope-up g (omega arith) sj) (s .2) qb))
     def-one (proc-rec p (at i x) ps b) {n} {row = row} {Γ = Γ} h l z sc s q =
         let w = name-stands (s .0) in
         let d : Looks g n ((x, procedure (pars ps)) ∷ Γ) = def-looks g h l sc refl w (proc-binder g ps b h l refl refl refl refl refl refl) in
@@ -121,7 +121,7 @@ module _ (g : Run) where
         one-map g (λ u r f. d)
         (proc-one g 7 p i x ps b ((x, procedure (pars ps)) ∷ []) Γ h l (λ M. refl) (scope-rec g h refl refl (here-low g h l) d)
         (is-rec n row (h .kind) refl z (ap (nameAt g.text) (name-place g h) ∙ sym w)) w (s .1)
-        (λ j ro ro′ y r zj sj. block-one b (seat g r) (behind′ g h l) (scope-up g (omega arith) sj) (s .2) qb))
+        (λ j ro ro′ y rl r zj sj. block-one b (seat g r) (behind′ g h l) (scope-up g (omega arith) sj) (s .2) qb))
 
     stat-one : (c : Stat) {n m row row′ v : ℕ} {s : Nodes} {Γ : Ctx} (h : Seat g (kind-stat c) (place-stat c) (kids-stat c) s n m row row′ v) → m ≤ g.count
         → 0 < n

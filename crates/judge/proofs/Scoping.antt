@@ -12,7 +12,7 @@ use borrow.Author.Tests.{ne-eqb, eqb-false}
 use Rattle.language.specs.Table.{Forest, none, leaf, fork}
 use Rattle.language.specs.Table as Table
 use Rattle.nodes.specs.Forests.{Laid, laid-none, laid-leaf, laid-fork}
-use Rattle.judge.specs.Scopes.{pick, kindAt, placeAt, childAt, nextAt, envAt, innerAt, outerAt, rowAfter, give, scopeStep, scopesFrom, scopesOf}
+use Rattle.judge.specs.Scopes.{pick, kindAt, placeAt, childAt, nextAt, envAt, innerAt, shownAt, outerAt, rowAfter, give, scopeStep, scopesFrom, scopesOf}
 use Rattle.judge.proofs.Shapes.{Nodes, end, node, nodesOf}
 
 unfoldable pub size : Nodes → ℕ
@@ -218,7 +218,7 @@ module _ (x t : List ℕ) where
   inner-same S R n h = rw h
 
   outer-same : (S R : List ℕ) (row n : ℕ) → getD S n 0 ≡ getD R n 0 → outerAt x t S row n ≡ outerAt x t R row n
-  unfolding outerAt envAt
+  unfolding outerAt shownAt envAt
   outer-same S R row n h = rw h
 
   pub sits-up : {S : List ℕ} {f : Nodes} {n m row row′ v : ℕ} → Sits S f n m row row′ v → n ≤ m

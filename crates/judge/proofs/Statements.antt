@@ -26,7 +26,7 @@ use Rattle.judge.specs.Rules.{binderOf, refType, targetType, adrRule, pa
 use Rattle.judge.proofs.Shapes.{Nodes, end, node, kind-expr, kids-expr, kind-arg, kids-arg, args-row}
 use Rattle.judge.proofs.Scoping.{first}
 use Rattle.judge.proofs.Spelling.{pos-not, Spells, same-right, Gives, gives-value, gives-ref, Args, args-none, args-more, Fitted, fitted, unfitted, fits-right}
-use Rattle.judge.proofs.Verdicts.{Run, One, one-fine, one-bad, Kids, Own, own-fine, own-bad, Ends, ends, kids-bind, Sit, Seat, seat, kids-done, below, kids-then, kids-past, node-one}
+use Rattle.judge.proofs.Verdicts.{Run, said-type, One, one-fine, one-bad, Kids, Own, own-fine, own-bad, Ends, ends, kids-bind, Sit, Seat, seat, kids-done, below, kids-then, kids-past, node-one}
 use Rattle.judge.proofs.Looking.{Written, binds-value, binds-ref, binds-proc, Found, found-none, found, binder-found, Scope, scope-up, scope-inner, scope-outer}
 use Rattle.judge.proofs.Parameters.{own-pass}
 use Rattle.judge.proofs.Expressions.{expr-binds, all-front, all-rest, has-at, has-low, is-bool, is-int, args-move, env-here, env-low, plain-role, behind′, expr-one}
@@ -79,7 +79,7 @@ module _ (g : Run) where
   -- (adr x)
   adr-own : {n p r : ℕ} (o : Option Ty) → Target o r → Own g (Argument n) n p (pick (eqb r 0) (λ _. 65536) λ _. 131072 + r) (judged p (as-ref o))
   unfolding judged
-  adr-own none no-target = own-bad refl
+  adr-own none no-target = own-bad said-type
   adr-own (some τ) (a-target r f w b) =
       rw (ne-eqb r 0 (λ e. eqb-false (r % 65536) 0 f (rw e)))
       (own-fine {a = ref τ} (ne-eqb ((131072 + r) % 65536) 0 (λ e. eqb-false (r % 65536) 0 f (omega arith))) (λ e lo l. gives-ref r e b (w g.notes lo)))

@@ -1,7 +1,7 @@
--- A verdict over a tree and the notes of its nodes agree: fine, and no node of it is refused; or TYPE at the place of its first refused node.
+-- A verdict over a tree and the notes of its nodes agree: fine, and no node of it is refused; or what the note of its first refused node says, at its place.
 -- Rows of siblings are judged one after the other, and a node by its own rule after its children.
 use Prim.Native.Nat.{ℕ, zero, suc, _+_, _%_, _<_, _≤_}
-use mathlib.Core.Path.{_≡_, refl, ap, _∙_}
+use mathlib.Core.Path.{_≡_, refl, sym, _∙_, subst}
 use mathlib.Core.Bool.{Bool, true, false}
 use mathlib.Core.List.{List}
 use mathlib.Core.Logic.{⊎-elim}
@@ -9,12 +9,12 @@ use native.Mathlib.Omega.{arith}
 use lib.Dec.{eqb}
 use lib.ListN.{length, getD}
 use borrow.Author.Tests.{ne-eqb, eqb-false}
-use Rattle.language.specs.Answers.{TYPE, Result, fine, refuse}
+use Rattle.language.specs.Answers.{Refusal, TYPE, DOUBLE, Result, fine, refuse}
 use Rattle.language.proofs.typing.Judge.{andThen}
 use Rattle.nodes.proofs.Links.{below-or-not}
 use Rattle.judge.specs.Scopes.{pick, kindAt, placeAt}
 use Rattle.judge.specs.Rules.{ownBy}
-use Rattle.judge.specs.Judge.{fineFrom, ruled, noteOf}
+use Rattle.judge.specs.Judge.{fineFrom, ruled, refuses, noteOf}
 use Rattle.judge.proofs.Shapes.{Nodes, end, node}
 use Rattle.judge.proofs.Scoping.{first, Sits, sits-end, Cell, cell, sits-up}
 use Rattle.judge.proofs.Noting.{Agree, Clean, Noted}
@@ -31,61 +31,93 @@ pub record Run : Type 0 where
   pub root : kindAt tree 0 ≡ 1
   pub noted : (i : ℕ) → i < count → Noted text tree scopes notes i
 
+-- what the note of a refused node says
+pub data Said : Refusal → ℕ → Type 0 where
+  said-type : Said TYPE 65536
+  said-double : Said DOUBLE 131072
+
+pub said-refuses : {c : Refusal} {r : ℕ} → Said c r → refuses r ≡ true
+unfolding refuses
+said-refuses said-type = refl
+said-refuses said-double = refl
+
+said-ruled : {c : Refusal} {r : ℕ} → Said c r → ruled r ≡ r
+unfolding ruled
+said-ruled said-type = refl
+said-ruled said-double = refl
+
+said-bad : {c : Refusal} {r : ℕ} → Said c r → eqb (r % 65536) 0 ≡ true
+said-bad said-type = refl
+said-bad said-double = refl
+
+-- any other note
+fine-ruled : (r : ℕ) → eqb (r % 65536) 0 ≡ false → ruled r ≡ r
+unfolding ruled
+fine-ruled r b = rw b (by-test (eqb r 131072))
+  where
+    by-test : (o : Bool) → pick o (λ _. r) (λ _. r) ≡ r
+    by-test true = refl
+    by-test false = refl
+
+fine-stays : (r : ℕ) → eqb (r % 65536) 0 ≡ false → refuses r ≡ false
+unfolding refuses
+fine-stays r b = rw (ne-eqb r 65536 (λ e. eqb-false (r % 65536) 0 b (rw e)), ne-eqb r 131072 (λ e. eqb-false (r % 65536) 0 b (rw e)))
+
 module _ (g : Run) where
   -- a note that is a refusal
   abbrev pub bad : ℕ → Bool
   bad n = eqb (getD g.notes n 0 % 65536) 0
 
-  -- the first node whose own rule is refused, from lo up to hi, stands at q
-  pub record First (lo hi q : ℕ) : Type 0 where
+  -- the first node that is refused itself, from lo up to hi, stands at q, and c is said there
+  pub record First (lo hi : ℕ) (c : Refusal) (q : ℕ) : Type 0 where
     pub at : ℕ
     pub from : lo ≤ at
     pub upto : at < hi
-    pub refused : getD g.notes at 0 ≡ 65536
+    pub refused : Said c (getD g.notes at 0)
     pub there : placeAt g.tree at ≡ q
     pub before : Clean g.notes lo at
 
   -- a tree from the node n up to m
   pub data One {A : Type 0} (P : A → Type 0) (n m : ℕ) : Result A → Type 0 where
     one-fine : {a : A} → P a → bad n ≡ false → Clean g.notes n m → One P n m (fine a)
-    one-bad : {q : ℕ} → bad n ≡ true → First n m q → One P n m (refuse TYPE q)
+    one-bad : {c : Refusal} {q : ℕ} → bad n ≡ true → First n m c q → One P n m (refuse c q)
 
   -- a row of trees from lo up to hi
   pub data Kids {A : Type 0} (K : Result A → Type 0) (f : Nodes) (lo hi : ℕ) : Result A → Type 0 where
     kids-fine : {o : Result A} → K o → ((M : List ℕ) → Agree lo g.notes M → (b : ℕ) → hi ≤ b + lo → fineFrom g.tree M b (first f lo) ≡ true)
         → Clean g.notes lo hi → Kids K f lo hi o
-    kids-bad : {q : ℕ} → ((M : List ℕ) → Agree lo g.notes M → (b : ℕ) → hi ≤ b + lo → fineFrom g.tree M b (first f lo) ≡ false)
-        → First lo hi q → Kids K f lo hi (refuse TYPE q)
+    kids-bad : {c : Refusal} {q : ℕ} → ((M : List ℕ) → Agree lo g.notes M → (b : ℕ) → hi ≤ b + lo → fineFrom g.tree M b (first f lo) ≡ false)
+        → First lo hi c q → Kids K f lo hi (refuse c q)
 
   -- the own rule of the node n gives the note r
   pub data Own {A : Type 0} (P : A → Type 0) (n p r : ℕ) : Result A → Type 0 where
     own-fine : {a : A} → eqb (r % 65536) 0 ≡ false → (getD g.notes n 0 ≡ r → P a) → Own P n p r (fine a)
-    own-bad : eqb (r % 65536) 0 ≡ true → Own P n p r (refuse TYPE p)
+    own-bad : {c : Refusal} → Said c r → Own P n p r (refuse c p)
 
   pub one-map : {A : Type 0} {P Q : A → Type 0} {n m : ℕ} {r : Result A} → ((a : A) → r ≡ fine a → P a → Q a) → One P n m r → One Q n m r
   one-map f (one-fine p b c) = one-fine (f _ refl p) b c
   one-map f (one-bad b c) = one-bad b c
 
   clean-both : {lo mid hi : ℕ} → Clean g.notes lo mid → Clean g.notes mid hi → Clean g.notes lo hi
-  clean-both {mid = mid} a b j l h e = ⊎-elim (λ u. a j l u e) (λ u. b j u h e) (below-or-not j mid)
+  clean-both {mid = mid} a b j l h = ⊎-elim (λ u. a j l u) (λ u. b j u h) (below-or-not j mid)
 
-  first-wider : {lo mid hi q : ℕ} → mid ≤ hi → First lo mid q → First lo hi q
+  first-wider : {lo mid hi q : ℕ} {c : Refusal} → mid ≤ hi → First lo mid c q → First lo hi c q
   first-wider l f =
       record { at = f .at; from = f .from; upto = let u = f .upto in omega arith; refused = f .refused; there = f .there; before = f .before }
 
-  first-later : {lo mid hi q : ℕ} → lo ≤ mid → Clean g.notes lo mid → First mid hi q → First lo hi q
-  first-later l c f =
+  first-later : {lo mid hi q : ℕ} {c : Refusal} → lo ≤ mid → Clean g.notes lo mid → First mid hi c q → First lo hi c q
+  first-later l cl f =
       record {
         at = f .at;
         from = let u = f .from in omega arith;
         upto = f .upto;
         refused = f .refused;
         there = f .there;
-        before = clean-both c (f .before);
+        before = clean-both cl (f .before);
       }
 
-  clean-one : (n : ℕ) → (getD g.notes n 0 ≡ 65536 → ⊥) → Clean g.notes n (suc n)
-  clean-one n h j l u e = h (ap (λ k. getD g.notes k 0) (here n j l u) ∙ e)
+  clean-one : (n : ℕ) → refuses (getD g.notes n 0) ≡ false → Clean g.notes n (suc n)
+  clean-one n h j l u = subst (λ k. refuses (getD g.notes k 0) ≡ false) (here n j l u) h
     where
       here : (n j : ℕ) → n ≤ j → j < suc n → n ≡ j
       here n j l u = omega arith
@@ -107,7 +139,7 @@ module _ (g : Run) where
   -- the end of a row
   pub kids-end : {A : Type 0} {K : Result A → Type 0} {n : ℕ} {o : Result A} → K o → Kids K end n n o
   unfolding fineFrom
-  kids-end k = kids-fine k (λ M a b l. none M b) (λ j l h e. omega arith)
+  kids-end k = kids-fine k (λ M a b l. none M b) (λ j l h. absurd (omega arith))
     where
       none : (M : List ℕ) (b : ℕ) → fineFrom g.tree M b 0 ≡ true
       none M zero = refl
@@ -179,25 +211,27 @@ module _ (g : Run) where
     noted-by b f =
         note .is ∙ rw (h .kind, h .child, f (note .M) (note .agree) (length g.tree) (omega (arith, below h, behind h, g.room)))
 
-    refused-not : (r : ℕ) → getD g.notes n 0 ≡ r → eqb (r % 65536) 0 ≡ false → getD g.notes n 0 ≡ 65536 → ⊥
-    refused-not r e b f = eqb-false (r % 65536) 0 b (rw (← e, f))
-
     by-own : {A : Type 0} {P : A → Type 0} {o : Result A} → Clean g.notes (suc n) (h .mid)
         → getD g.notes n 0 ≡ ruled (ownBy k g.text g.tree g.scopes (note .M) n) → Own P n p (ownBy k g.text g.tree g.scopes (note .M) n) o → One P n (h .mid) o
-    unfolding ruled
     by-own cl e (own-fine b f) =
         let r = ownBy k g.text g.tree g.scopes (note .M) n in
-        let w : getD g.notes n 0 ≡ r = e ∙ rw b in
-        one-fine (f w) (rw w b) (clean-both (clean-one n (refused-not r w b)) cl)
-    by-own cl e (own-bad b) =
-        let w : getD g.notes n 0 ≡ 65536 = e ∙ rw b in
-        one-bad (rw w) (record { at = n; from = omega arith; upto = below h; refused = w; there = h .place; before = λ j a u e. omega arith })
+        let w : getD g.notes n 0 ≡ r = e ∙ fine-ruled r b in
+        one-fine (f w) (rw w b) (clean-both (clean-one n (rw w (fine-stays r b))) cl)
+    by-own cl e (own-bad {c} b) =
+        let r = ownBy k g.text g.tree g.scopes (note .M) n in
+        let w : getD g.notes n 0 ≡ r = e ∙ said-ruled b in
+        one-bad (rw w (said-bad b)) (record {
+          at = n;
+          from = omega arith;
+          upto = below h;
+          refused = subst (Said c) (sym w) b;
+          there = h .place;
+          before = λ j a u. absurd (omega arith);
+        })
 
     pub node-one : {A : Type 0} {P : A → Type 0} {o : Result A} → Kids (Rule P) c (suc n) (h .mid) o → One P n (h .mid) o
+    unfolding refuses
     node-one (kids-fine k f cl) = by-own cl (noted-by true f) (k (note .M) (note .agree))
     node-one (kids-bad f fs) =
         let w : getD g.notes n 0 ≡ 0 = noted-by false f in
-        one-bad (rw w) (first-later (omega arith) (clean-one n (λ e. no-rule w e)) fs)
-      where
-        no-rule : getD g.notes n 0 ≡ 0 → getD g.notes n 0 ≡ 65536 → ⊥
-        no-rule w e = omega arith
+        one-bad (rw w) (first-later (omega arith) (clean-one n (rw w)) fs)

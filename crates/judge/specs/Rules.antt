@@ -1,4 +1,4 @@
--- Each node's own rule, over the notes N of what ended before it: its note, or 65536 where the rule is not met.
+-- Each node's own rule, over the notes N of what ended before it: its note, or 65536 where the rule is not met (131072: a doubled parameter).
 -- x is the text, t the tree table, S the scopes.
 use Prim.Native.Nat.{ℕ, zero, suc, _+_}
 use mathlib.Core.Bool.{Bool, true, false}
@@ -6,7 +6,7 @@ use mathlib.Core.List.{List}
 use lib.Dec.{eqb, ltb}
 use lib.ListN.{length, getD}
 use Rattle.judge.specs.Names.{nineAt}
-use Rattle.judge.specs.Scopes.{pick, kindAt, placeAt, childAt, nextAt, envAt, roleAt, findFrom}
+use Rattle.judge.specs.Scopes.{pick, kindAt, placeAt, childAt, nextAt, envAt, roleAt, behindAt, findFrom, namedFrom}
 use Rattle.judge.specs.Types.{noteKind, isFun, partsOf, resultType, same, fitsFrom}
 
 -- this note if the test holds, else refused
@@ -111,6 +111,11 @@ isBase k = pick (eqb k 15) (λ _. true) λ _. eqb k 16
 unfoldable pub cellRule : List ℕ → List ℕ → ℕ → ℕ → ℕ
 cellRule x t p y = pick (eqb (nineAt x p) 0) (λ _. passes (isBase (kindAt t y)) 65537) λ _. 65536
 
+-- the parameter i, whose own rule gives r: its name is none of those before it in its list
+unfoldable pub singleRule : List ℕ → List ℕ → List ℕ → ℕ → ℕ → ℕ
+singleRule x t S i r =
+    pick (eqb r 65537) (λ _. pick (namedFrom x t S (placeAt t i) (length t) (behindAt S i)) (λ _. 131072) λ _. 65537) λ _. 65536
+
 -- the last of a row of siblings
 unfoldable pub lastFrom : List ℕ → ℕ → ℕ → ℕ
 lastFrom t zero y = y
@@ -166,10 +171,10 @@ statBy k x t S N i =
     pick (eqb k 12) (λ _. callRule x t S N i) λ _. partRule t N 15 (childAt t i)
 
 -- a parameter, a var parameter, a type
-unfoldable pub paramBy : ℕ → List ℕ → List ℕ → ℕ → ℕ
-paramBy k x t i =
-    pick (eqb k 13) (λ _. freeRule x (placeAt t i)) λ _.
-    pick (eqb k 14) (λ _. cellRule x t (placeAt t i) (childAt t i)) λ _. 65537
+unfoldable pub paramBy : ℕ → List ℕ → List ℕ → List ℕ → ℕ → ℕ
+paramBy k x t S i =
+    pick (eqb k 13) (λ _. singleRule x t S i (freeRule x (placeAt t i))) λ _.
+    pick (eqb k 14) (λ _. singleRule x t S i (cellRule x t (placeAt t i) (childAt t i))) λ _. 65537
 
 -- an expression, an adr
 unfoldable pub exprBy : ℕ → List ℕ → List ℕ → List ℕ → List ℕ → ℕ → ℕ
@@ -186,4 +191,4 @@ unfoldable pub ownBy : ℕ → List ℕ → List ℕ → List ℕ → List ℕ �
 ownBy k x t S N i =
     pick (ltb k 8) (λ _. defBy k x t N i) λ _.
     pick (ltb k 13) (λ _. statBy k x t S N i) λ _.
-    pick (ltb k 18) (λ _. paramBy k x t i) λ _. exprBy k x t S N i
+    pick (ltb k 18) (λ _. paramBy k x t S i) λ _. exprBy k x t S N i

@@ -1,7 +1,8 @@
 -- The forward pass: each node's scope, over lists of numbers. x is the text, t the tree table, S the scopes.
 -- A scope is a role times 65536 plus the innermost binder in force at the node (0: none). A binder's own scope is the next one out, so that the table is
--- at once the names in force at each node and, from there outward, the list of them.
-use Prim.Native.Nat.{ℕ, zero, suc, _+_, _*_, _/_, _%_}
+-- at once the names in force at each node and, from there outward, the list of them. From 3 on a role says that the node stands behind the parameter whose
+-- number is 2 less: so it is also the list of the parameters before one, those that a REC name hides among them.
+use Prim.Native.Nat.{ℕ, zero, suc, _+_, _-_, _*_, _/_, _%_}
 use mathlib.Core.Bool.{Bool, true, false}
 use mathlib.Core.List.{List}
 use lib.Dec.{eqb, ltb}
@@ -33,6 +34,10 @@ envAt S i = getD S i 0 % 65536
 unfoldable pub roleAt : List ℕ → ℕ → ℕ
 roleAt S i = getD S i 0 / 65536
 
+-- the parameter that the node i stands behind, or 0
+unfoldable pub behindAt : List ℕ → ℕ → ℕ
+behindAt S i = roleAt S i - 2
+
 -- the role of the first child of a node of kind k: 1 a name that is not judged, 2 an application's head, 0 any other
 unfoldable pub roleIn : ℕ → ℕ
 roleIn k =
@@ -60,13 +65,17 @@ rowAfter t i row = pick (eqb (rowOf (kindAt t i)) 0) (λ _. row) λ _. pick (eqb
 unfoldable pub innerAt : List ℕ → List ℕ → ℕ → ℕ
 innerAt t S i = roleIn (kindAt t i) * 65536 + pick (eqb (rowOf (kindAt t i)) 1) (λ _. i) λ _. envAt S i
 
--- the scope of i's next sibling: a parameter that has the name of its REC definition is hidden
+-- the binder in force behind the parameter i: one that has the name of its REC definition is hidden
+unfoldable pub shownAt : List ℕ → List ℕ → List ℕ → ℕ → ℕ → ℕ
+shownAt x t S row i =
+    pick (eqb row 0) (λ _. i) λ _.
+    pick (sameName x (placeAt t i) (placeAt t (childAt t row))) (λ _. envAt S i) λ _. i
+
+-- the scope of i's next sibling
 unfoldable pub outerAt : List ℕ → List ℕ → List ℕ → ℕ → ℕ → ℕ
 outerAt x t S row i =
     pick (eqb (bindsOf (kindAt t i)) 0) (λ _. envAt S i) λ _.
-    pick (eqb (bindsOf (kindAt t i)) 1) (λ _. i) λ _.
-    pick (eqb row 0) (λ _. i) λ _.
-    pick (sameName x (placeAt t i) (placeAt t (childAt t row))) (λ _. envAt S i) λ _. i
+    pick (eqb (bindsOf (kindAt t i)) 1) (λ _. i) λ _. (i + 2) * 65536 + shownAt x t S row i
 
 -- the scope of the node i, where there is one
 unfoldable pub give : List ℕ → ℕ → ℕ → List ℕ
@@ -95,3 +104,11 @@ findFrom x t S p (suc n) e =
     pick (eqb e 0) (λ _. 0) λ _.
     pick (sameName x (binderPlace t e) p) (λ _. e) λ _.
     findFrom x t S p n (envAt S e)
+
+-- does one of n parameters from e on, the latest first, have the name at p?
+unfoldable pub namedFrom : List ℕ → List ℕ → List ℕ → ℕ → ℕ → ℕ → Bool
+namedFrom x t S p zero e = false
+namedFrom x t S p (suc n) e =
+    pick (eqb e 0) (λ _. false) λ _.
+    pick (sameName x (placeAt t e) p) (λ _. true) λ _.
+    namedFrom x t S p n (behindAt S e)

@@ -1,6 +1,6 @@
 -- Types over the tree table t and the notes N. A note is 65536 + k for a type or an outcome of kind k (65551 bool, 65552 int, 65537 fine, 65555 an operator
 -- as a head), the node that spells a type (a type, FUN, FUN REC or an abstraction), or 131072 more than such a node for a reference;
--- 65536 says that the node's own rule is not met, and 0 that one below is not.
+-- 65536 says that the node's own rule is not met, 131072 that it is a parameter named like one before it, and 0 that a node below is refused.
 -- All spellings of a function's type have one shape: a row of siblings, of which all but the last are parameters and the last is or has the result.
 use Prim.Native.Nat.{ℕ, zero, suc, _-_}
 use mathlib.Core.Bool.{Bool, true, false}

@@ -1,8 +1,8 @@
 -- What the gate says, with document 01's number for each answer.
 use Rattle.language.specs.Library.{ℕ}
 
-pub data Refusal : Type 0 where  -- a text or a call is refused (1 to 9)
-  LENGTH LIMIT TABLE BYTE NUMBER TOKENS SYNTAX LEVEL TYPE : Refusal
+pub data Refusal : Type 0 where  -- a text or a call is refused (1 to 10)
+  LENGTH LIMIT TABLE BYTE NUMBER TOKENS SYNTAX LEVEL TYPE DOUBLE : Refusal
 
 pub data LimitStop : Type 0 where  -- a run is stopped by a limit (20 to 24)
   FUEL DEPTH CELLS BINDINGS OUTPUT : LimitStop
@@ -24,7 +24,7 @@ pub data Result (A : Type 0) : Type 0 where  -- what comes of a text or a part o
   refuse : Refusal → (place : ℕ) → Result A
 
 abbrev pub refusal-number : Refusal → ℕ
-refusal-number = elim [ LENGTH ↦ 1 | LIMIT ↦ 2 | TABLE ↦ 3 | BYTE ↦ 4 | NUMBER ↦ 5 | TOKENS ↦ 6 | SYNTAX ↦ 7 | LEVEL ↦ 8 | TYPE ↦ 9 ]
+refusal-number = elim [ LENGTH ↦ 1 | LIMIT ↦ 2 | TABLE ↦ 3 | BYTE ↦ 4 | NUMBER ↦ 5 | TOKENS ↦ 6 | SYNTAX ↦ 7 | LEVEL ↦ 8 | TYPE ↦ 9 | DOUBLE ↦ 10 ]
 
 abbrev pub stop-number : Stop → ℕ
 stop-number =

@@ -3,7 +3,7 @@ use Rattle.language.specs.Library.{_≡_, _↔_, _⊎_, ℕ, zero, suc, 
 use lib.ListN.{take}
 use Rattle.language.specs.Syntax.{at, Expr, name, ExprP, last, Def, Stat, echo, while, Block, block}
 use Rattle.language.specs.Bytes.{bytesOf}
-use Rattle.language.specs.Answers.{FUEL, DEPTH, CELLS, BINDINGS, OUTPUT, Stop, limit, error, done, stopped, Result, fine}
+use Rattle.language.specs.Answers.{Refusal, FUEL, DEPTH, CELLS, BINDINGS, OUTPUT, Stop, limit, error, done, stopped, Result, fine}
 use Rattle.language.specs.Words.{Word, wordsOf, most}
 use Rattle.language.specs.Grammar.{BLOCK, Reads}
 use Rattle.language.specs.Table.{none, shapeBlock, Node, node, enc, table}
@@ -11,7 +11,7 @@ use Rattle.language.specs.Levels.{levels, deepest}
 use Rattle.language.specs.Reading.{Opens, Within, Reading}
 use Rattle.language.specs.Types.{Ty, base, fn, Tys, tnil, tcons, Ctx}
 use Rattle.language.specs.Typing.{HasE, Typable}
-use Rattle.language.specs.Order.{JudgedNode, expr-node, adr-node, param-node, def-node, stat-node, nodes-block, TypeRefused}
+use Rattle.language.specs.Order.{JudgedNode, expr-node, adr-node, param-node, single-node, def-node, stat-node, nodes-block, TypeRefused}
 use Rattle.language.specs.Limits.{Limits, greatest-limits, _⊑_, Admitted}
 use Rattle.language.specs.Rules.{Env, State, stop, no-rule, Outcome, ok, halt, bind, need, branch, enter, as-truth, in-block, level, run}
 use Rattle.language.specs.Outcome.{state-of, end-of}
@@ -53,10 +53,11 @@ pub data Rising : ℕ → List ℕ → Type 0 where  -- each is larger than the 
 abbrev pub InTextOrder : Type 0
 InTextOrder = (s : List ℕ) (b : Block) → Reading s (fine b) → Rising 0 (map place-of-node (enc (shapeBlock b none) 0))
 
--- A tree is typed, or refused at one place, and never both.
+-- A tree is typed, or refused in one way and at one place, and never both.
 abbrev pub TypedOrRefused : Type 0
 TypedOrRefused = (b : Block) →
-    (Typable b ⊎ ((q : ℕ) × TypeRefused b q)) × ((q : ℕ) → Typable b → TypeRefused b q → ⊥) × ((q q′ : ℕ) → TypeRefused b q → TypeRefused b q′ → q ≡ q′)
+    (Typable b ⊎ ((r : Refusal) × (q : ℕ) × TypeRefused b r q)) × ((r : Refusal) (q : ℕ) → Typable b → TypeRefused b r q → ⊥) ×
+    ((r r′ : Refusal) (q q′ : ℕ) → TypeRefused b r q → TypeRefused b r′ q′ → (r ≡ r′) × (q ≡ q′))
 
 -- An expression has at most one type.
 abbrev pub UniqueTypes : Type 0
@@ -87,6 +88,7 @@ abbrev pub Comparable : JudgedNode → Type 0
 Comparable (expr-node Γ e) = (t : Ty) → HasE Γ e t → TyFits t 128
 Comparable (adr-node Γ p x) = Unit {0}
 Comparable (param-node a) = Unit {0}
+Comparable (single-node xs a) = Unit {0}
 Comparable (def-node Γ d) = Unit {0}
 Comparable (stat-node Γ c) = Unit {0}
 

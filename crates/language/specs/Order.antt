@@ -1,27 +1,33 @@
--- Where TYPE is reported (document 01): the first node, in the order in which nodes end, that cannot be typed.
+-- Where TYPE and DOUBLE are reported (document 01, request 1): the first node, in the order in which nodes end, that cannot be typed.
 -- Children end before their parents, so at the first such node every part is typed and the node's own rule cannot be met.
 use Rattle.language.specs.Library.{ℕ, List, [], _∷_, _++_, Option, none, some}
-use Rattle.language.specs.Syntax.{Ident, at, ArgP, Expr, num, name, if-expr, and, or, app, abs, Exprs, one-expr, more-exprs, ExprP, val, adr, Cmds, last, def-then, stat-then, Def, const, fun, fun-rec, var, proc, proc-rec, Stat, echo, set, if-stat, while, call, Block, block}
+use Rattle.language.specs.Syntax.{Name, Ident, at, ArgP, Expr, num, name, if-expr, and, or, app, abs, Exprs, one-expr, more-exprs, ExprP, val, adr, Cmds, last, def-then, stat-then, Def, const, fun, fun-rec, var, proc, proc-rec, Stat, echo, set, if-stat, while, call, Block, block}
 use Rattle.language.specs.Places.{place-expr, place-param, place-def, place-stat}
+use Rattle.language.specs.Answers.{Refusal, TYPE, DOUBLE}
 use Rattle.language.specs.Names.{Op, head-operator}
-use Rattle.language.specs.Types.{Ty, typeOf, Par, value, ref, plain, procedure, Ctx, extend, values, pars, declared, fun-type}
-use Rattle.language.specs.Typing.{Declarable, HasE, HasA, HasD, HasS}
+use Rattle.language.specs.Types.{Ty, typeOf, Par, value, ref, plain, procedure, Ctx, extend, values, pars, param-name, declared, fun-type}
+use Rattle.language.specs.Typing.{Declarable, Single, HasE, HasA, HasD, HasS}
 
 -- a node that a rule judges, with the names that it may use. Blocks, types, names after a key word and operator heads have no rule of their own
 pub data JudgedNode : Type 0 where
   expr-node : Ctx → Expr → JudgedNode
   adr-node : Ctx → ℕ → Ident → JudgedNode
   param-node : ArgP → JudgedNode
+  single-node : (before : List Name) → ArgP → JudgedNode  -- the same parameter, after its own rule: that its name is none of those before it
   def-node : Ctx → Def → JudgedNode
   stat-node : Ctx → Stat → JudgedNode
 
 abbrev pub place-node : JudgedNode → ℕ
-place-node = elim [ expr-node Γ e ↦ place-expr e | adr-node Γ p x ↦ p | param-node a ↦ place-param a | def-node Γ d ↦ place-def d | stat-node Γ c ↦ place-stat c ]
+place-node = elim [ expr-node Γ e ↦ place-expr e | adr-node Γ p x ↦ p | param-node a ↦ place-param a | single-node xs a ↦ place-param a | def-node Γ d ↦ place-def d | stat-node Γ c ↦ place-stat c ]
+
+abbrev pub refusal-node : JudgedNode → Refusal  -- what is said where a node cannot be typed
+refusal-node = elim [ expr-node Γ e ↦ TYPE | adr-node Γ p x ↦ TYPE | param-node a ↦ TYPE | single-node xs a ↦ DOUBLE | def-node Γ d ↦ TYPE | stat-node Γ c ↦ TYPE ]
 
 abbrev pub Typed : JudgedNode → Type 0  -- a node that can be typed
 Typed (expr-node Γ e) = (t : Ty) × HasE Γ e t
 Typed (adr-node Γ p x) = (q : Par) × HasA Γ (adr p x) q
 Typed (param-node a) = Declarable a
+Typed (single-node xs a) = Single xs a
 Typed (def-node Γ d) = (Δ : Ctx) × HasD Γ d Δ
 Typed (stat-node Γ c) = HasS Γ c
 
@@ -33,9 +39,12 @@ after-def (var p (at q x) t) Γ = (x, plain (ref (typeOf t))) ∷ Γ
 after-def (proc p (at q x) ps b) Γ = (x, procedure (pars ps)) ∷ Γ
 after-def (proc-rec p (at q x) ps b) Γ = (x, procedure (pars ps)) ∷ Γ
 
+abbrev pub nodes-after : List Name → List ArgP → List JudgedNode  -- parameters that follow those with the names `before`; at each TYPE comes first
+nodes-after before [] = []
+nodes-after before (a ∷ ps) = param-node a ∷ single-node before a ∷ nodes-after (param-name a ∷ before) ps
+
 abbrev pub nodes-params : List ArgP → List JudgedNode  -- parameters end before the body
-nodes-params [] = []
-nodes-params (a ∷ ps) = param-node a ∷ nodes-params ps
+nodes-params ps = nodes-after [] ps
 
 abbrev pub nodes-head : Option Op → List JudgedNode → List JudgedNode  -- an operator's name at the head is not judged
 nodes-head none l = l
@@ -91,9 +100,9 @@ unfoldable mutual
   nodes-stat Γ (while p e b) = nodes-expr Γ e ++ (nodes-block Γ b ++ (stat-node Γ (while p e b) ∷ []))
   nodes-stat Γ (call p x as′) = nodes-args Γ as′ ++ (stat-node Γ (call p x as′) ∷ [])
 
-pub data FirstBad : List JudgedNode → ℕ → Type 0 where  -- the first of the nodes that cannot be typed stands at q
-  here : {n : JudgedNode} {l : List JudgedNode} → ¬ Typed n → FirstBad (n ∷ l) (place-node n)
-  later : {n : JudgedNode} {l : List JudgedNode} {q : ℕ} → Typed n → FirstBad l q → FirstBad (n ∷ l) q
+pub data FirstBad : List JudgedNode → Refusal → ℕ → Type 0 where  -- the first of the nodes that cannot be typed stands at q, and r is said there
+  here : {n : JudgedNode} {l : List JudgedNode} → ¬ Typed n → FirstBad (n ∷ l) (refusal-node n) (place-node n)
+  later : {n : JudgedNode} {l : List JudgedNode} {r : Refusal} {q : ℕ} → Typed n → FirstBad l r q → FirstBad (n ∷ l) r q
 
-abbrev pub TypeRefused : Block → ℕ → Type 0  -- a program is refused with TYPE at q
-TypeRefused b q = FirstBad (nodes-block [] b) q
+abbrev pub TypeRefused : Block → Refusal → ℕ → Type 0  -- a program is refused with r, TYPE or DOUBLE, at q
+TypeRefused b r q = FirstBad (nodes-block [] b) r q

@@ -2,7 +2,7 @@
 -- NAME's promise is `nameAt` of Words.
 use Rattle.language.specs.Library.{_≡_, ℕ, _-_, _≤_, _<_, ℤ, Bool, true, false, cond, leb, List, [], _∷_, _++_, length, drop, replicate, some}
 use Rattle.language.specs.Syntax.{Block}
-use Rattle.language.specs.Answers.{Refusal, LENGTH, LIMIT, TABLE, TYPE, Answer, done, refused, Result, fine, refuse}
+use Rattle.language.specs.Answers.{Refusal, LENGTH, LIMIT, TABLE, Answer, done, refused, Result, fine, refuse}
 use Rattle.language.specs.Table.{table}
 use Rattle.language.specs.Reading.{Reading}
 use Rattle.language.specs.Typing.{Typable}
@@ -11,10 +11,10 @@ use Rattle.language.specs.Limits.{Limits, Admitted}
 use Rattle.language.specs.Rules.{State, start, run}
 use Rattle.language.specs.Outcome.{state-of, end-of}
 
--- The verdict on a text (4 to 9): its tree, if the grammar yields the text within the limits and it is typed; else the refusal and its place.
+-- The verdict on a text (4 to 10): its tree, if the grammar yields the text within the limits and it is typed; else the refusal and its place.
 pub data Verdict (text : List ℕ) : Result Block → Type 0 where
   unread : {r : Refusal} {p : ℕ} → Reading text (refuse r p) → Verdict text (refuse r p)
-  untyped : {b : Block} {q : ℕ} → Reading text (fine b) → TypeRefused b q → Verdict text (refuse TYPE q)
+  untyped : {b : Block} {r : Refusal} {q : ℕ} → Reading text (fine b) → TypeRefused b r q → Verdict text (refuse r q)
   typed : {b : Block} → Reading text (fine b) → Typable b → Verdict text (fine b)
 
 abbrev pub verdict-answer : Result Block → Answer
@@ -72,7 +72,7 @@ module _ (text tree : List ℕ) (works : List Lent) where
   pub data Check : Checked → Type 0 where
     too-long : text-bytes < length text → Check (check-refuses LENGTH)
     too-small : length text ≤ text-bytes → large-enough (tree-table tree ∷ works) ≡ false → Check (check-refuses TABLE)
-    -- 0 and 4 to 9
+    -- 0 and 4 to 10
     judged : {v : Result Block} → length text ≤ text-bytes → large-enough (tree-table tree ∷ works) ≡ true → Verdict text v →
         Check (record { answer = verdict-answer v; tree = tree-after v tree; works = cleared works })
 
@@ -118,7 +118,7 @@ module _ (L : Limits) (text tree : List ℕ) (works stores : List Lent) (output 
     too-long : text-bytes < length text → Run (run-refuses LENGTH)
     too-much : length text ≤ text-bytes → ¬ Admitted L → Run (run-refuses LIMIT)
     too-small : length text ≤ text-bytes → Admitted L → all-large ≡ false → Run (run-refuses TABLE)
-    -- 4 to 9: bindings, cells and output are untouched
+    -- 4 to 10: bindings, cells and output are untouched
     not-run : {r : Refusal} {p : ℕ} → length text ≤ text-bytes → Admitted L → all-large ≡ true → Verdict text (refuse r p) →
         Run (record { says = told (refused r p) start; tree = zeroed tree-words tree; works = cleared works; stores = untouched stores; output = output })
     -- 0 and 20 to 27: the end and the counts of the rules

@@ -1,10 +1,10 @@
 // What the program `aps` prints of a script: its numbers, one a line, and its end; of one that is refused, one line.
 use answers::Report;
 
-// The refusals are 1 to 9.
+// The refusals are 1 to 10.
 const FIRST_REFUSAL: u64 = 1;
 
-const LAST_REFUSAL: u64 = 9;
+const LAST_REFUSAL: u64 = 10;
 
 // The most numbers that a run may put out.
 const MOST_NUMBERS: usize = 4096;

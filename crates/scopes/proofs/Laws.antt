@@ -3,10 +3,13 @@ use Prim.Native.Nat.{ℕ, suc, _+_, _-_, _<_, _≤_}
 use mathlib.Core.Path.{_≡_, ap}
 use mathlib.Core.List.{List}
 use native.Mathlib.Omega.{arith}
-use Rattle.judge.specs.Scopes.{findFrom, scopesFrom, scopesOf, scopeStep, rowAfter}
+use Rattle.judge.specs.Scopes.{findFrom, namedFrom, scopesFrom, scopesOf, scopeStep, rowAfter}
 
 pub find-more : (k : ℕ) → (k ≡ 0 → ⊥) → (x t S : List ℕ) (p e : ℕ) → findFrom x t S p k e ≡ findFrom x t S p (suc (k - 1)) e
 find-more k h x t S p e = ap (λ j. findFrom x t S p j e) (omega arith)
+
+pub named-more : (k : ℕ) → (k ≡ 0 → ⊥) → (x t S : List ℕ) (p e : ℕ) → namedFrom x t S p k e ≡ namedFrom x t S p (suc (k - 1)) e
+named-more k h x t S p e = ap (λ j. namedFrom x t S p j e) (omega arith)
 
 pub scopes-more : (n i : ℕ) → i < n → (x t : List ℕ) (row : ℕ) (S : List ℕ) →
     scopesFrom x t (n - i) i row S ≡ scopesFrom x t (n - (i + 1)) (i + 1) (rowAfter t i row) (scopeStep x t S row i)

@@ -1,5 +1,5 @@
 -- Tables that are cleared, lent in part and cleared again.
-use Prim.Native.Nat.{ℕ, _-_, _≤_}
+use Prim.Native.Nat.{ℕ, _≤_}
 use mathlib.Core.Path.{_≡_, refl, sym, ap, _∙_}
 use mathlib.Core.List.{List, _++_}
 use native.Mathlib.Omega.{arith}
@@ -8,10 +8,8 @@ use lib.Seq.{length-take-le, length-front, drop-at}
 use borrow.Author.Tests.{eq-eqb, ne-eqb}
 use Rattle.limits.specs.Cleared.{zeroed}
 use Rattle.limits.proofs.Cleared.{length-zeroed, zeroed-is, take-zeroed, drop-zeroed}
-use Rattle.judge.specs.Scopes.{placeAt}
 use Rattle.judge.specs.Judge.{verdictOf}
 use Rattle.verdict.specs.declared.Verdict.{Verdict}
-use Rattle.verdict.specs.declared.Verdict.the-variants.{Accepted, «Type»}
 use Rattle.verdict.specs.Judging.{refusedNode, Settled, verdictAt, treeLeft, Judging}
 
 module _ (k : ℕ) (l : List ℕ) (h : k ≤ length l) where
@@ -41,22 +39,22 @@ settled k x t n r s₀ n₀ s₁ n₁ e f s₂ n₂ hs hn zs zn a le lf es en =
     }
 
 -- the tree is accepted and stays, or a node is refused and it is wiped
-module _ {k : ℕ} {x t : List ℕ} {n r : ℕ} {s₀ n₀ s₁ n₁ : List ℕ} (h : Settled k x (take k t) n s₀ n₀ r s₁ n₁) where
-  pub stays : r ≡ 0 → Judging k x t n s₀ n₀ Accepted t s₁ n₁
-  unfolding verdictAt treeLeft
+module _ {k : ℕ} {x t : List ℕ} {n r : ℕ} {s₀ n₀ s₁ n₁ : List ℕ} (h : Settled k x (take k t) n s₀ n₀ r s₁ n₁) {v : Verdict} (e : v ≡ verdictAt (take k t) r) where
+  pub stays : r ≡ 0 → Judging k x t n s₀ n₀ v t s₁ n₁
+  unfolding treeLeft
   stays z =
       record {
-        answer = rw (← h .answer, eq-eqb r 0 z);
+        answer = rw (← h .answer) e;
         tree-left = rw (← h .answer, eq-eqb r 0 z);
         scopes-zero = h .scopes-zero;
         notes-zero = h .notes-zero;
       }
 
-  pub goes : {p : ℕ} {t₁ : List ℕ} → (r ≡ 0 → ⊥) → p ≡ placeAt (take k t) (r - 1) → t₁ ≡ zeroed 0 k t → Judging k x t n s₀ n₀ («Type» p) t₁ s₁ n₁
-  unfolding verdictAt treeLeft
-  goes z e w =
+  pub goes : {t₁ : List ℕ} → (r ≡ 0 → ⊥) → t₁ ≡ zeroed 0 k t → Judging k x t n s₀ n₀ v t₁ s₁ n₁
+  unfolding treeLeft
+  goes z w =
       record {
-        answer = rw (← h .answer, ne-eqb r 0 z, e);
+        answer = rw (← h .answer) e;
         tree-left = rw (← h .answer, ne-eqb r 0 z, w);
         scopes-zero = h .scopes-zero;
         notes-zero = h .notes-zero;

@@ -4,11 +4,11 @@ use mathlib.Core.Path.{_≡_, refl, sym, ap, _∙_, subst}
 use mathlib.Core.Bool.{Bool, true, false, cond}
 use mathlib.Core.List.{List, [], _∷_, _++_}
 use native.Mathlib.Omega.{arith}
-use lib.Dec.{eqb, leb}
+use lib.Dec.{eqb, leb, ltb}
 use lib.ListN.{length, take, drop, replicate}
 use borrow.Author.Tests.{leb-true}
 use Rattle.language.specs.Syntax.{Block}
-use Rattle.language.specs.Answers.{Refusal, TYPE, Answer, Result, fine, refuse, refusal-number}
+use Rattle.language.specs.Answers.{Refusal, TYPE, DOUBLE, Answer, Result, fine, refuse, refusal-number}
 use Rattle.language.specs.Table.{table}
 use Rattle.language.specs.Reading.{Reading}
 use Rattle.language.specs.Promises.{Verdict, unread, verdict-answer, Lent, tree-table, large-enough, zeroed, holding, tree-after, Check, judged}
@@ -22,7 +22,7 @@ use Rattle.reading.specs.Promise.{working, Left, left, Read, too-long, too-smal
 use Rattle.judge.specs.Scopes.{pick, placeAt}
 use Rattle.judge.proofs.Right.{resultOf, zeros-verdict}
 use Rattle.verdict.specs.declared.Verdict.{Verdict as Says}
-use Rattle.verdict.specs.declared.Verdict.the-variants.{Accepted, «Type»}
+use Rattle.verdict.specs.declared.Verdict.the-variants.{Accepted, «Type», Double}
 use Rattle.verdict.specs.Answers.{meant, lent, checked}
 use Rattle.verdict.specs.Judging as specs
 use Rattle.verdict.specs.Judging.{refusedNode, verdictAt, treeLeft, Judging}
@@ -158,20 +158,24 @@ four p q r s = rw (p, q, r, s)
 
 same-answer : (tree : List ℕ) (b : Block) (r : ℕ) → verdict-answer (resultOf tree b r) ≡ meant (verdictAt tree r)
 unfolding resultOf verdictAt
-same-answer tree b r = by (eqb r 0) (placeAt tree (r - 1))
+same-answer tree b r = by (eqb r 0) (ltb r 65537) (placeAt tree (r - 1)) (placeAt tree (r - 65537))
   where
-    by : (t : Bool) (q : ℕ) → verdict-answer (pick t (λ _. fine b) λ _. refuse TYPE q) ≡ meant (pick t (λ _. Accepted) λ _. «Type» q)
-    by true q = refl
-    by false q = refl
+    by : (t u : Bool) (p q : ℕ) → verdict-answer (pick t (λ _. fine b) λ _. pick u (λ _. refuse TYPE p) λ _. refuse DOUBLE q) ≡
+        meant (pick t (λ _. Accepted) λ _. pick u (λ _. «Type» p) λ _. Double q)
+    by true u p q = refl
+    by false true p q = refl
+    by false false p q = refl
 
 same-tree : (tree : List ℕ) (b : Block) (r : ℕ) (t₀ t₁ : List ℕ) → t₁ ≡ holding 4096 (table b) t₀ → limits.zeroed 0 4096 t₁ ≡ zeroed 4096 t₀ →
     tree-after (resultOf tree b r) t₀ ≡ treeLeft 4096 t₁ r
 unfolding resultOf treeLeft
-same-tree tree b r t₀ t₁ e z = by (eqb r 0) (placeAt tree (r - 1))
+same-tree tree b r t₀ t₁ e z = by (eqb r 0) (ltb r 65537) (placeAt tree (r - 1)) (placeAt tree (r - 65537))
   where
-    by : (t : Bool) (q : ℕ) → tree-after (pick t (λ _. fine b) λ _. refuse TYPE q) t₀ ≡ pick t (λ _. t₁) λ _. limits.zeroed 0 4096 t₁
-    by true q = sym e
-    by false q = sym z
+    by : (t u : Bool) (p q : ℕ) → tree-after (pick t (λ _. fine b) λ _. pick u (λ _. refuse TYPE p) λ _. refuse DOUBLE q) t₀ ≡
+        pick t (λ _. t₁) λ _. limits.zeroed 0 4096 t₁
+    by true u p q = sym e
+    by false true p q = sym z
+    by false false p q = sym z
 
 right-verdict : {x : List ℕ} {b : Block} (tree : List ℕ) (n : ℕ) → ReadAs (record { tree = tree; text = x }) b → n ≡ nodes-of b →
     Verdict x (resultOf tree b (refusedNode 4096 x tree n))

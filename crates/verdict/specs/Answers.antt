@@ -1,10 +1,10 @@
 -- What each of CHECK's answers means, and the tables that it is lent.
 use Prim.Native.Nat.{ℕ}
 use mathlib.Core.List.{List, [], _∷_}
-use Rattle.language.specs.Answers.{LENGTH, TABLE, BYTE, NUMBER, TOKENS, SYNTAX, LEVEL, TYPE, Answer, done, refused}
+use Rattle.language.specs.Answers.{LENGTH, TABLE, BYTE, NUMBER, TOKENS, SYNTAX, LEVEL, TYPE, DOUBLE, Answer, done, refused}
 use Rattle.language.specs.Promises.{Lent, Checked}
 use Rattle.verdict.specs.declared.Verdict.{Verdict}
-use Rattle.verdict.specs.declared.Verdict.the-variants.{Accepted, Length, Table, Byte, Number, Tokens, Syntax, Level, «Type»}
+use Rattle.verdict.specs.declared.Verdict.the-variants.{Accepted, Length, Table, Byte, Number, Tokens, Syntax, Level, «Type», Double}
 
 abbrev pub meant : Verdict → Answer
 meant Accepted = done
@@ -16,6 +16,7 @@ meant (Tokens p) = refused TOKENS p
 meant (Syntax p) = refused SYNTAX p
 meant (Level p) = refused LEVEL p
 meant («Type» p) = refused TYPE p
+meant (Double p) = refused DOUBLE p
 
 -- the working tables and their fixed sizes: the words of the text and the stack of the reading, a scope and a note for each node
 abbrev pub lent : (words stack scopes notes : List ℕ) → List Lent

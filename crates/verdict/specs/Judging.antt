@@ -3,15 +3,15 @@
 use Prim.Native.Nat.{ℕ, _-_}
 use mathlib.Core.Path.{_≡_}
 use mathlib.Core.List.{List}
-use lib.Dec.{eqb}
+use lib.Dec.{eqb, ltb}
 use lib.ListN.{take, replicate}
 use Rattle.limits.specs.Cleared.{zeroed}
 use Rattle.judge.specs.Scopes.{pick, placeAt}
 use Rattle.judge.specs.Judge.{verdictOf}
 use Rattle.verdict.specs.declared.Verdict.{Verdict}
-use Rattle.verdict.specs.declared.Verdict.the-variants.{Accepted, Byte, Number, Tokens, Syntax, Level, «Type»}
+use Rattle.verdict.specs.declared.Verdict.the-variants.{Accepted, Byte, Number, Tokens, Syntax, Level, «Type», Double}
 
--- 0, or the number after that of the first node to end whose own rule is not met, of n nodes of the tree words
+-- the judge's answer on n nodes of the tree words: 0, or which node is the first to end whose own rule is not met
 unfoldable pub refusedNode : ℕ → List ℕ → List ℕ → ℕ → ℕ
 refusedNode k text tree n = verdictOf text tree n (replicate k 0) (replicate k 0)
 
@@ -20,9 +20,11 @@ pub record Settled (k : ℕ) (text tree : List ℕ) (n : ℕ) (scopes notes : Li
   pub scopes-zero : scopes′ ≡ zeroed 0 k scopes
   pub notes-zero : notes′ ≡ zeroed 0 k notes
 
--- accepted, or TYPE at the refused node
+-- accepted; TYPE at the node before r; from 65537 on DOUBLE, at the node so far behind
 unfoldable pub verdictAt : List ℕ → ℕ → Verdict
-verdictAt tree r = pick (eqb r 0) (λ _. Accepted) λ _. «Type» (placeAt tree (r - 1))
+verdictAt tree r =
+    pick (eqb r 0) (λ _. Accepted) λ _.
+    pick (ltb r 65537) (λ _. «Type» (placeAt tree (r - 1))) λ _. Double (placeAt tree (r - 65537))
 
 -- the tree, or zeros
 unfoldable pub treeLeft : ℕ → List ℕ → ℕ → List ℕ

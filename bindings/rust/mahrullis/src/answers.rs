@@ -23,6 +23,8 @@ pub enum Code {
     Level = 8,
     /// A rule of the types cannot be met.
     Type = 9,
+    /// A parameter has the name of one before it in its list.
+    Double = 10,
 }
 
 impl Code {
@@ -31,7 +33,7 @@ impl Code {
         self as u64
     }
 
-    /// The code of a number, none where it is not 1 to 9.
+    /// The code of a number, none where it is not 1 to 10.
     pub const fn from_number(number: u64) -> Option<Code> {
         Some(match number {
             1 => Code::Length,
@@ -43,6 +45,7 @@ impl Code {
             7 => Code::Syntax,
             8 => Code::Level,
             9 => Code::Type,
+            10 => Code::Double,
             _ => return None,
         })
     }
@@ -60,6 +63,7 @@ impl fmt::Display for Code {
             Code::Syntax => "no program goes on like this",
             Code::Level => "this opens a 65th level",
             Code::Type => "a rule of the types cannot be met here",
+            Code::Double => "this parameter has the name of one before it in its list",
         })
     }
 }

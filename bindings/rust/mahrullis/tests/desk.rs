@@ -50,6 +50,7 @@ fn scripts_of_the_desk() {
     expect(gate, b"[ECHO true]", MOST, refused(Code::Type, 1));
     expect(gate, b"[ECHO y]", MOST, refused(Code::Type, 6));
     expect(gate, b"[CONST f (int * int -> int) add; ECHO 1]", MOST, refused(Code::Type, 28));
+    expect(gate, b"[FUN f int [fare:int, fare:bool] 1; ECHO 1]", MOST, refused(Code::Double, 22));
     expect(gate, b"[PROC p [var x:int] [SET x (add x 1)]; VAR v int; SET v 41; CALL p (adr v); ECHO v]", MOST, done(12, 3, 1, &[42]));
     expect(gate, b"[PROC p [var x:int] [SET x (add x 1)]; VAR v int; SET v 41; CALL p v; ECHO v]", MOST, refused(Code::Type, 60));
     expect(gate, b"[FUN REC f int [n:int] (if (lt n 1) 0 (add n (f (sub n 1)))); ECHO (f 3)]", MOST, done(43, 9, 0, &[6]));
@@ -140,7 +141,7 @@ fn names_are_parts_of_the_text() {
 #[test]
 fn numbers_and_words_of_the_answers() {
     for number in 0..100 {
-        assert!(Code::from_number(number).map_or(!(1..=9).contains(&number), |code| code.number() == number));
+        assert!(Code::from_number(number).map_or(!(1..=10).contains(&number), |code| code.number() == number));
         assert!(Stop::from_number(number).map_or(!(20..=27).contains(&number), |stop| stop.number() == number));
         assert!(Kind::from_number(number).map_or(!(1..=25).contains(&number), |kind| kind.number() == number));
     }

@@ -30,6 +30,9 @@ enum-known-verdict-5 c = search needs
 enum-known-verdict-6 : tie.Need-enum-known-verdict-6
 enum-known-verdict-6 c = search needs
 
+enum-known-verdict-7 : tie.Need-enum-known-verdict-7
+enum-known-verdict-7 c = search needs
+
 returns : tie.Need-returns
 returns c = search needs
 
@@ -57,6 +60,9 @@ returns-8 c = rw (c .before .verdict5 .given .1)
 returns-9 : tie.Need-returns-9
 returns-9 c = rw (c .before .verdict6 .given .1)
 
+returns-10 : tie.Need-returns-10
+returns-10 c = rw (c .before .verdict7 .given .1)
+
 pub answer-to-spec : {M : Type 1} → statement M
 answer-to-spec =
     tie.close
@@ -70,6 +76,7 @@ answer-to-spec =
     enum-known-verdict-4
     enum-known-verdict-5
     enum-known-verdict-6
+    enum-known-verdict-7
     returns
     returns-2
     returns-3
@@ -78,4 +85,5 @@ answer-to-spec =
     returns-6
     returns-7
     returns-8
-    returns-9)
+    returns-9
+    returns-10)

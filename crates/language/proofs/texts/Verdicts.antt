@@ -3,7 +3,7 @@ use mathlib.Core.Path.{_≡_, refl, sym, _∙_, ap, subst}
 use mathlib.Core.List.{List}
 use Prim.Native.Nat.{ℕ}
 use Rattle.language.specs.Syntax.{Block}
-use Rattle.language.specs.Answers.{Refusal, TYPE, Result, fine, refuse}
+use Rattle.language.specs.Answers.{Result, fine, refuse}
 use Rattle.language.specs.Reading.{Reading}
 use Rattle.language.specs.Limits.{Limits}
 use Rattle.language.specs.Outcome.{Report, report-of}
@@ -33,8 +33,7 @@ outcome L s = report-of L (verdict s)
 tree-right : (s : List ℕ) (b : Block) → Reading s (fine b) → (v : Result (Unit {0})) → judge b ≡ v → Verdict s (judged-tree b v)
 unfolding judged-tree
 tree-right s b h (fine u) e = typed h (judge-accepts b .0 e)
-tree-right s b h (refuse r q) e =
-    let k = judge-refuses b r q .0 e in subst (λ (r : Refusal). Verdict s (refuse r q)) (sym (k .0)) (untyped h (k .1))
+tree-right s b h (refuse r q) e = untyped h (judge-refuses b r q .0 e)
 
 text-right : (s : List ℕ) (a : Result Block) → Reading s a → Verdict s (judged-text a)
 unfolding judged-text
@@ -49,5 +48,5 @@ verdict-right s = text-right s (read s) (answers s)
 pub only-verdict : {s : List ℕ} {v : Result Block} → Verdict s v → verdict s ≡ v
 unfolding verdict judged-text judged-tree
 only-verdict (unread h) = ap judged-text (only h)
-only-verdict (untyped {b} {q} h t) = ap judged-text (only h) ∙ ap (judged-tree b) (judge-refuses b TYPE q .1 (refl, t))
+only-verdict (untyped {b} {r} {q} h t) = ap judged-text (only h) ∙ ap (judged-tree b) (judge-refuses b r q .1 t)
 only-verdict (typed {b} h t) = ap judged-text (only h) ∙ ap (judged-tree b) (judge-accepts b .1 t)

@@ -2,7 +2,7 @@
 use mathlib.Core.Path.{refl}
 use mathlib.Core.List.{List, [], _∷_}
 use lib.IntN.{pos}
-use Rattle.language.specs.Answers.{TYPE, FUEL, DEPTH, CELLS, BINDINGS, OUTPUT, RANGE, UNSET, limit, error, done, stopped}
+use Rattle.language.specs.Answers.{TYPE, DOUBLE, FUEL, DEPTH, CELLS, BINDINGS, OUTPUT, RANGE, UNSET, limit, error, done, stopped}
 use Rattle.language.specs.Names.{meaning}
 use Rattle.language.specs.Words.{wordsFrom}
 use Rattle.language.specs.Limits.{greatest-limits}
@@ -12,7 +12,7 @@ use Rattle.language.specs.Desk.{Case, AllHold, case, ends, limited}
 use Rattle.language.proofs.reading.Machine.{set-sib, link, add-leaf, add-fork, retype, parse}
 use Rattle.language.proofs.reading.Descent.{descent}
 use Rattle.language.proofs.reading.Reader.{past, deep, read}
-use Rattle.language.proofs.typing.Judge.{andThen, judged, only, passes, same-type, judge-params, judge-expr, judge-arg, judge-args, judge-cmds}
+use Rattle.language.proofs.typing.Judge.{andThen, judged, only, passes, single, same-type, judge-after, judge-expr, judge-arg, judge-args, judge-cmds}
 use Rattle.language.proofs.texts.Verdicts.{judged-tree, judged-text, verdict, outcome}
 use Rattle.language.proofs.texts.Tables.{AllComputed, computed-holds}
 
@@ -70,9 +70,23 @@ worked =
     (ends (stopped (limit BINDINGS) 1) 1 0 1 []) ∷
     case "[FUN f int [x:int, y:int] x; ECHO (f 1 2)]" (limited 1000000 200 2 4096 4096)
     (ends (stopped (limit BINDINGS) 34) 6 1 0 []) ∷
-    -- ---- equal parameter names: the last counts; a recursive name hides a parameter
+    -- ---- no name twice in one parameter list, judged as its parameters end, TYPE first; a list inside is a list of its own; a recursive name hides a parameter
     case "[FUN f int [x:bool, x:int] x; ECHO (f true 3)]" greatest-limits
-    (ends done 7 3 0 (pos 3 ∷ [])) ∷
+    (refusal-report DOUBLE 20) ∷
+    case "[PROC p [fare:int, var fare:bool] [ECHO y]; ECHO 1]" greatest-limits
+    (refusal-report DOUBLE 23) ∷
+    case "[ECHO ([x:int, y:int, x:int, y:int] x 1 2 3 4)]" greatest-limits
+    (refusal-report DOUBLE 22) ∷
+    case "[PROC REC p [x:int, var x:(int -> int)] [ECHO 1]; ECHO 1]" greatest-limits
+    (refusal-report TYPE 24) ∷
+    case "[FUN f int [x:int, x:int, not:int] 1; ECHO 1]" greatest-limits
+    (refusal-report DOUBLE 19) ∷
+    case "[FUN f int [not:int, x:int, x:int] 1; ECHO 1]" greatest-limits
+    (refusal-report TYPE 12) ∷
+    case "[ECHO y; FUN f int [x:int, x:int] 1; ECHO 1]" greatest-limits
+    (refusal-report TYPE 6) ∷
+    case "[FUN f int [x:int] ([x:int, y:int] (add x y) x 2); ECHO (f 3)]" greatest-limits
+    (ends done 12 4 0 (pos 5 ∷ [])) ∷
     case "[FUN REC f int [f:int] (if true 4 (f 0)); ECHO (f 1)]" greatest-limits
     (ends done 8 3 0 (pos 4 ∷ [])) ∷
     -- ---- the nine names mean themselves, also where they are bound; parameters come before the body
@@ -111,9 +125,9 @@ worked =
     []
 
 worked-computed : AllComputed worked
-unfolding outcome verdict judged-text judged-tree read wordsFrom parse add-leaf add-fork link set-sib retype descent past deep level bind need within branch give give-cell meaning andThen judged only passes same-type judge-params judge-expr judge-arg judge-args judge-cmds
+unfolding outcome verdict judged-text judged-tree read wordsFrom parse add-leaf add-fork link set-sib retype descent past deep level bind need within branch give give-cell meaning andThen judged only passes single same-type judge-after judge-expr judge-arg judge-args judge-cmds
 worked-computed =
-    (refl, (refl, (refl, (refl, (refl, (refl, (refl, (refl, (refl, (refl, (refl, (refl, (refl, (refl, (refl, (refl, (refl, (refl, (refl, (refl, (refl, (refl, (refl, (refl, (refl, (refl, (refl, (refl, (refl, (refl, (refl, (refl, (refl, (refl, (refl, (refl, (refl, (refl, (refl, (refl, tt))))))))))))))))))))))))))))))))))))))))
+    (refl, (refl, (refl, (refl, (refl, (refl, (refl, (refl, (refl, (refl, (refl, (refl, (refl, (refl, (refl, (refl, (refl, (refl, (refl, (refl, (refl, (refl, (refl, (refl, (refl, (refl, (refl, (refl, (refl, (refl, (refl, (refl, (refl, (refl, (refl, (refl, (refl, (refl, (refl, (refl, (refl, (refl, (refl, (refl, (refl, (refl, (refl, tt)))))))))))))))))))))))))))))))))))))))))))))))
 
 pub worked-hold : AllHold worked
 worked-hold = computed-holds worked worked-computed

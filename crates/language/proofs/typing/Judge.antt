@@ -4,11 +4,12 @@ use Prim.Native.Nat.{ℕ}
 use mathlib.Core.Bool.{Bool, true, false}
 use mathlib.Core.List.{List, [], _∷_}
 use mathlib.Core.Option.{Option, none, some}
-use Rattle.language.specs.Syntax.{at, ArgP, val-arg, var-arg, Expr, num, name, if-expr, and, or, app, abs, Exprs, one-expr, more-exprs, ExprP, val, adr, Cmds, last, def-then, stat-then, Def, const, fun, fun-rec, var, proc, proc-rec, Stat, echo, set, if-stat, while, call, Block, block}
+use Rattle.language.specs.Syntax.{Name, at, ArgP, val-arg, var-arg, Expr, num, name, if-expr, and, or, app, abs, Exprs, one-expr, more-exprs, ExprP, val, adr, Cmds, last, def-then, stat-then, Def, const, fun, fun-rec, var, proc, proc-rec, Stat, echo, set, if-stat, while, call, Block, block}
 use Rattle.language.specs.Places.{place-param}
-use Rattle.language.specs.Answers.{TYPE, Result, fine, refuse}
+use Rattle.language.specs.Answers.{TYPE, DOUBLE, Result, fine, refuse}
 use Rattle.language.specs.Names.{Op, Meaning, literal, operator, free, meaning, head-operator}
-use Rattle.language.specs.Types.{Base, boolean, integer, Ty, base, fn, Tys, tnil, tcons, BOOL, INT, typeOf, Par, value, ref, Entity, plain, procedure, Ctx, find, extend, values, pars, declared, arg-types, fun-type, takes, result}
+use Rattle.language.specs.Types.{Base, boolean, integer, Ty, base, fn, Tys, tnil, tcons, BOOL, INT, typeOf, Par, value, ref, Entity, plain, procedure, Ctx, find, extend, values, pars, param-name, declared, arg-types, fun-type, takes, result}
+use Rattle.language.specs.Typing.{among}
 use Rattle.language.specs.Order.{after-def}
 
 module _ {A B : Type 0} where
@@ -29,6 +30,11 @@ module _ {A : Type 0} where
 -- a node that only has to pass a test
 unfoldable pub passes : ℕ → Bool → Result (Unit {0})
 passes p b = judged p (only b (some tt))
+
+-- a parameter that must not be named like one before it
+unfoldable pub single : ℕ → Bool → Result (Unit {0})
+single p true = refuse DOUBLE p
+single p false = fine tt
 
 abbrev pub andb : Bool → Bool → Bool
 andb true b = b
@@ -106,9 +112,13 @@ abbrev pub judge-app : ℕ → Option Op → Result Ty → Result Tys → Result
 judge-app p (some o) f es = andThen es λ ts. judged p (prim-type o ts)
 judge-app p none f es = andThen f λ tf. andThen es λ ts. judged p (app-type tf ts)
 
-unfoldable pub judge-params : List ArgP → Result (Unit {0})
-judge-params [] = fine tt
-judge-params (a ∷ ps) = andThen (passes (place-param a) (declarable a)) λ u. judge-params ps
+unfoldable pub judge-after : List Name → List ArgP → Result (Unit {0})
+judge-after xs [] = fine tt
+judge-after xs (a ∷ ps) =
+    andThen (passes (place-param a) (declarable a)) λ u. andThen (single (place-param a) (among (param-name a) xs)) λ v. judge-after (param-name a ∷ xs) ps
+
+abbrev pub judge-params : List ArgP → Result (Unit {0})
+judge-params ps = judge-after [] ps
 
 unfoldable mutual
   pub judge-expr : Ctx → Expr → Result Ty

@@ -1,5 +1,5 @@
 -- The judge is right about what it accepts, and about the place where it refuses.
-use mathlib.Core.Path.{_≡_, refl, sym, _∙_, ap, subst}
+use mathlib.Core.Path.{_≡_, refl, sym, _∙_, ap₂, subst}
 use mathlib.Core.Logic.{_↔_, _⊎_, inl, inr}
 use Prim.Native.Nat.{ℕ}
 use mathlib.Core.Bool.{Bool, true, false}
@@ -10,10 +10,10 @@ use Rattle.language.specs.Syntax.{Name, at, ArgP, Expr, num, name, if-ex
 use Rattle.language.specs.Places.{place-expr, place-param}
 use Rattle.language.specs.Answers.{Refusal, TYPE, Result, fine, refuse}
 use Rattle.language.specs.Names.{Op, Meaning, literal, operator, free, meaning, head-operator}
-use Rattle.language.specs.Types.{Ty, base, fn, Tys, tnil, tcons, BOOL, INT, typeOf, Par, value, ref, Entity, plain, procedure, Ctx, find, extend, values, declared, takes}
-use Rattle.language.specs.Typing.{Free, Declarable, AllDeclarable, HasE, NUM, LITERAL, IDV, IDR, IF, AND, OR, PRIM, APP, ABS, HasEs, ONE, MORE, HasA, REF, VAL, HasAs, NO-ARGS, ARGS, HasB, BLOC, HasC, DECS, STATS, END, HasD, CONST, FUN, FUNREC, VAR, PROC, PROCREC, HasS, ECHO, SET, IFS, WHILE, CALL, Typable}
-use Rattle.language.specs.Order.{JudgedNode, expr-node, adr-node, param-node, def-node, stat-node, place-node, Typed, after-def, nodes-params, nodes-head, nodes-expr, nodes-exprs, nodes-arg, nodes-args, nodes-block, nodes-cmds, nodes-def, nodes-stat, FirstBad, here, later, TypeRefused}
-use Rattle.language.proofs.typing.Judge.{andThen, judged, only, passes, andb, same-type, same-types, is-free, is-base, name-type, if-type, bools-type, prim-type, app-type, judge-app, judge-params, judge-expr, judge-exprs, ref-type, call-pars, fits-ref, fits-call, as-ref, judge-arg, judge-args, judge-block, judge-cmds, judge-def, judge-stat, judge}
+use Rattle.language.specs.Types.{Ty, base, fn, Tys, tnil, tcons, BOOL, INT, typeOf, Par, value, ref, Entity, plain, procedure, Ctx, find, extend, values, param-name, declared, takes}
+use Rattle.language.specs.Typing.{Free, Declarable, Single, DeclarableAfter, AllDeclarable, among, HasE, NUM, LITERAL, IDV, IDR, IF, AND, OR, PRIM, APP, ABS, HasEs, ONE, MORE, HasA, REF, VAL, HasAs, NO-ARGS, ARGS, HasB, BLOC, HasC, DECS, STATS, END, HasD, CONST, FUN, FUNREC, VAR, PROC, PROCREC, HasS, ECHO, SET, IFS, WHILE, CALL, Typable}
+use Rattle.language.specs.Order.{JudgedNode, expr-node, adr-node, param-node, single-node, def-node, stat-node, place-node, refusal-node, Typed, after-def, nodes-after, nodes-params, nodes-head, nodes-expr, nodes-exprs, nodes-arg, nodes-args, nodes-block, nodes-cmds, nodes-def, nodes-stat, FirstBad, here, later, TypeRefused}
+use Rattle.language.proofs.typing.Judge.{andThen, judged, only, passes, single, andb, same-type, same-types, is-free, is-base, name-type, if-type, bools-type, prim-type, app-type, judge-app, judge-after, judge-params, judge-expr, judge-exprs, ref-type, call-pars, fits-ref, fits-call, as-ref, judge-arg, judge-args, judge-block, judge-cmds, judge-def, judge-stat, judge}
 use Rattle.language.proofs.typing.SameType.{andb-l, andb-r, same-type-is, same-types-is, same-pars-is, free-is, base-is, declarable-in, declarable-is}
 use Rattle.language.proofs.typing.Unique.{Is, is, IsO, isO, is-pass, complete-params, complete-expr, complete-exprs, complete-arg, complete-args, complete-block, complete-def, complete-stat}
 
@@ -21,20 +21,20 @@ pub data AllTyped : List JudgedNode → Type 0 where
   allNil : AllTyped []
   allCons : {n : JudgedNode} {l : List JudgedNode} → Typed n → AllTyped l → AllTyped (n ∷ l)
 
--- a verdict over the nodes R: fine, and P of the result and all are typed; or TYPE at the first that is not
+-- a verdict over the nodes R: fine, and P of the result and all are typed; or what is said at the first that is not
 pub data View {A : Type 0} (P : A → Type 0) (R : List JudgedNode) : Result A → Type 0 where
   vfine : {a : A} → P a → AllTyped R → View P R (fine a)
-  vbad : {q : ℕ} → FirstBad R q → View P R (refuse TYPE q)
+  vbad : {r : Refusal} {q : ℕ} → FirstBad R r q → View P R (refuse r q)
 
 all-app : {l m : List JudgedNode} → AllTyped l → AllTyped m → AllTyped (l ++ m)
 all-app allNil k = k
 all-app (allCons h r) k = allCons h (all-app r k)
 
-first-app : {l : List JudgedNode} (m : List JudgedNode) {q : ℕ} → FirstBad l q → FirstBad (l ++ m) q
+first-app : {l : List JudgedNode} (m : List JudgedNode) {r : Refusal} {q : ℕ} → FirstBad l r q → FirstBad (l ++ m) r q
 first-app m (here h) = here h
-first-app m (later h r) = later h (first-app m r)
+first-app m (later h k) = later h (first-app m k)
 
-later-app : {l m : List JudgedNode} {q : ℕ} → AllTyped l → FirstBad m q → FirstBad (l ++ m) q
+later-app : {l m : List JudgedNode} {r : Refusal} {q : ℕ} → AllTyped l → FirstBad m r q → FirstBad (l ++ m) r q
 later-app allNil k = k
 later-app (allCons h r) k = later h (later-app r k)
 
@@ -66,19 +66,23 @@ map-view : {A : Type 0} {P Q : A → Type 0} {R : List JudgedNode} {o : Result A
 map-view f (vfine p al) = vfine (f _ p) al
 map-view f (vbad b) = vbad b
 
+-- what is said at a node that cannot be typed
+abbrev said : (A : Type 0) → JudgedNode → Result A
+said A n = refuse (refusal-node n) (place-node n)
+
 -- the node's own rule, with what the node is given
-own : {A : Type 0} {P : A → Type 0} (n : JudgedNode) (p : ℕ) (o : Option A) → place-node n ≡ p →
+own : {A : Type 0} {P : A → Type 0} (n : JudgedNode) (p : ℕ) (o : Option A) → said A n ≡ refuse TYPE p →
     ((a : A) → IsO a o → P a) → ((a : A) → P a → Typed n) → (Typed n → (a : A) × Is a (judged p o)) → View P (n ∷ []) (judged p o)
 unfolding judged
-own {P = P} n p none q f t g = subst (λ p. View P (n ∷ []) (refuse TYPE p)) q (vbad (here (λ h. no-is ((g h) .1))))
+own {P = P} n p none q f t g = subst (λ o. View P (n ∷ []) o) q (vbad (here (λ h. no-is ((g h) .1))))
 own n p (some a) q f t g = vfine (f a isO) (allCons (t a (f a isO)) allNil)
 
 -- the same for a node that only has to pass a test
-pass : {X : Type 0} (n : JudgedNode) (p : ℕ) (b : Bool) → place-node n ≡ p → (T b → X) → (X → Typed n) → (Typed n → Is tt (passes p b)) →
+pass : {X : Type 0} (n : JudgedNode) (p : ℕ) (b : Bool) → said (Unit {0}) n ≡ refuse TYPE p → (T b → X) → (X → Typed n) → (Typed n → Is tt (passes p b)) →
     View (λ (u : Unit {0}). X) (n ∷ []) (passes p b)
 unfolding passes judged only
 pass n p true q f t g = vfine (f tt) (allCons (t (f tt)) allNil)
-pass {X = X} n p false q f t g = subst (λ p. View (λ (u : Unit {0}). X) (n ∷ []) (refuse TYPE p)) q (vbad (here (λ h. no-is (g h))))
+pass {X = X} n p false q f t g = subst (λ o. View (λ (u : Unit {0}). X) (n ∷ []) o) q (vbad (here (λ h. no-is (g h))))
 
 -- past a part that is fine
 peel : {A B : Type 0} {a : A} {b : B} {o : Result A} (k : A → Result B) → Is a o → Is b (andThen o k) → Is b (k a)
@@ -132,11 +136,20 @@ app-own (base b) hf hs i = absurd (no-isO i)
 app-own {Γ} {p} {f} {es} (fn ts r) {us} hf hs i =
     let u = only-inv (same-types us ts) i in subst (λ t. HasE Γ (app p f es) t) (isO-uniq (u .1)) (APP hf (as-types ts (u .0) hs))
 
+-- a parameter's name among those before it
+view-single : (xs : List Name) (a : ArgP) (b : Bool) → among (param-name a) xs ≡ b → View (λ u. Single xs a) (single-node xs a ∷ []) (single (place-param a) b)
+unfolding single
+view-single xs a true e = vbad (here {n = single-node xs a} (λ h. subst T (sym e ∙ h) tt))
+view-single xs a false e = vfine e (allCons {n = single-node xs a} e allNil)
+
+view-after : (xs : List Name) (ps : List ArgP) → View (λ u. DeclarableAfter xs ps) (nodes-after xs ps) (judge-after xs ps)
+unfolding judge-after
+view-after xs [] = vfine tt allNil
+view-after xs (a ∷ ps) = seq (pass {X = Declarable a} (param-node a) (place-param a) _ refl (declarable-is a) (λ h. h) (λ h. is-pass _ _ (declarable-in a h)))
+    λ u h. seq (view-single xs a _ refl) λ v k. map-view (λ w hs. (h, k, hs)) (view-after _ ps)
+
 view-params : (ps : List ArgP) → View (λ u. AllDeclarable ps) (nodes-params ps) (judge-params ps)
-unfolding judge-params
-view-params [] = vfine tt allNil
-view-params (a ∷ ps) = seq (pass {X = Declarable a} (param-node a) (place-param a) _ refl (declarable-is a) (λ h. h) (λ h. is-pass _ _ (declarable-in a h)))
-    λ u h. map-view (λ v hs. (h, hs)) (view-params ps)
+view-params ps = view-after [] ps
 
 exp : {Γ : Ctx} {e : Expr} (o : Option Ty) → ((t : Ty) → IsO t o → HasE Γ e t) → ((t : Ty) → HasE Γ e t → Is t (judged (place-expr e) o)) →
     View (HasE Γ e) (expr-node Γ e ∷ []) (judged (place-expr e) o)
@@ -254,13 +267,13 @@ mutual
 
 -- ---- verdicts
 
-first-unique : {l : List JudgedNode} {q r : ℕ} → FirstBad l q → FirstBad l r → q ≡ r
-first-unique (here h) (here k) = refl
+first-unique : {l : List JudgedNode} {r r′ : Refusal} {q q′ : ℕ} → FirstBad l r q → FirstBad l r′ q′ → (r ≡ r′) × (q ≡ q′)
+first-unique (here h) (here k) = (refl, refl)
 first-unique (here h) (later t k) = absurd (h t)
 first-unique (later t h) (here k) = absurd (k t)
 first-unique (later t h) (later u k) = first-unique h k
 
-all-no-first : {l : List JudgedNode} {q : ℕ} → AllTyped l → FirstBad l q → ⊥
+all-no-first : {l : List JudgedNode} {r : Refusal} {q : ℕ} → AllTyped l → FirstBad l r q → ⊥
 all-no-first (allCons t al) (here h) = h t
 all-no-first (allCons t al) (later u h) = all-no-first al h
 
@@ -270,30 +283,28 @@ is-eq is = refl
 fine-view : {X : Type 0} {R : List JudgedNode} → View (λ (u : Unit {0}). X) R (fine tt) → X
 fine-view (vfine x al) = x
 
-bad-view : {X : Type 0} {R : List JudgedNode} {r : Refusal} {q : ℕ} → View (λ (u : Unit {0}). X) R (refuse r q) → (r ≡ TYPE) × FirstBad R q
-bad-view (vbad h) = (refl, h)
+bad-view : {X : Type 0} {R : List JudgedNode} {r : Refusal} {q : ℕ} → View (λ (u : Unit {0}). X) R (refuse r q) → FirstBad R r q
+bad-view (vbad h) = h
 
-view-bad : {X : Type 0} {R : List JudgedNode} {q : ℕ} {o : Result (Unit {0})} → View (λ (u : Unit {0}). X) R o → FirstBad R q → o ≡ refuse TYPE q
+view-bad : {X : Type 0} {R : List JudgedNode} {r : Refusal} {q : ℕ} {o : Result (Unit {0})} → View (λ (u : Unit {0}). X) R o → FirstBad R r q → o ≡ refuse r q
 view-bad (vfine x al) h = absurd (all-no-first al h)
-view-bad (vbad k) h = ap (λ q. refuse TYPE q) (first-unique k h)
+view-bad (vbad k) h = let e = first-unique k h in ap₂ refuse (e .0) (e .1)
 
-view-one : {X : Type 0} {R : List JudgedNode} {o : Result (Unit {0})} → View (λ (u : Unit {0}). X) R o → X ⊎ ((q : ℕ) × FirstBad R q)
+view-one : {X : Type 0} {R : List JudgedNode} {o : Result (Unit {0})} → View (λ (u : Unit {0}). X) R o → X ⊎ ((r : Refusal) × (q : ℕ) × FirstBad R r q)
 view-one (vfine x al) = inl x
-view-one (vbad {q = q} h) = inr (q, h)
+view-one (vbad {r = r} {q = q} h) = inr (r, q, h)
 
-view-both : {X : Type 0} {R : List JudgedNode} {q : ℕ} {o : Result (Unit {0})} → View (λ (u : Unit {0}). X) R o → Is tt o → FirstBad R q → ⊥
+view-both : {X : Type 0} {R : List JudgedNode} {r : Refusal} {q : ℕ} {o : Result (Unit {0})} → View (λ (u : Unit {0}). X) R o → Is tt o → FirstBad R r q → ⊥
 view-both (vfine x al) i h = all-no-first al h
 view-both (vbad k) i h = no-is i
 
 pub judge-accepts : (b : Block) → (judge b ≡ fine tt) ↔ Typable b
 judge-accepts b = ((λ e. fine-view (subst (λ o. View (λ u. Typable b) (nodes-block [] b) o) e (view-block b []))), (λ h. is-eq (complete-block b h)))
 
-pub judge-refuses : (b : Block) (r : Refusal) (q : ℕ) → (judge b ≡ refuse r q) ↔ ((r ≡ TYPE) × TypeRefused b q)
-judge-refuses b r q = (
-  (λ e. bad-view (subst (λ o. View (λ u. Typable b) (nodes-block [] b) o) e (view-block b []))),
-  (λ h. view-bad (view-block b []) (h .1) ∙ ap (λ r. refuse r q) (sym (h .0))),
-)
+pub judge-refuses : (b : Block) (r : Refusal) (q : ℕ) → (judge b ≡ refuse r q) ↔ TypeRefused b r q
+judge-refuses b r q = ((λ e. bad-view (subst (λ o. View (λ u. Typable b) (nodes-block [] b) o) e (view-block b []))), (λ h. view-bad (view-block b []) h))
 
 pub one-verdict : (b : Block) →
-    (Typable b ⊎ ((q : ℕ) × TypeRefused b q)) × ((q : ℕ) → Typable b → TypeRefused b q → ⊥) × ((q q′ : ℕ) → TypeRefused b q → TypeRefused b q′ → q ≡ q′)
-one-verdict b = (view-one (view-block b []), (λ q t h. view-both (view-block b []) (complete-block b t) h), (λ q q′ h k. first-unique h k))
+    (Typable b ⊎ ((r : Refusal) × (q : ℕ) × TypeRefused b r q)) × ((r : Refusal) (q : ℕ) → Typable b → TypeRefused b r q → ⊥) ×
+    ((r r′ : Refusal) (q q′ : ℕ) → TypeRefused b r q → TypeRefused b r′ q′ → (r ≡ r′) × (q ≡ q′))
+one-verdict b = (view-one (view-block b []), (λ r q t h. view-both (view-block b []) (complete-block b t) h), (λ r r′ q q′ h k. first-unique h k))

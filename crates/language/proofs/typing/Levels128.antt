@@ -11,7 +11,7 @@ use Rattle.language.specs.Bytes.{same-bytes}
 use Rattle.language.specs.Names.{Op, Meaning, literal, operator, free, lookup, meaning, unless-nine, head-operator}
 use Rattle.language.specs.Types.{Ty, base, fn, Tys, tnil, tcons, typeOf, typesOf, Par, value, ref, Entity, plain, procedure, Ctx, find, extend, values, par, declared, arg-types, fun-type}
 use Rattle.language.specs.Typing.{HasE, NUM, LITERAL, IDV, IDR, IF, AND, OR, PRIM, APP, ABS}
-use Rattle.language.specs.Order.{JudgedNode, expr-node, adr-node, param-node, def-node, stat-node, after-def, nodes-params, nodes-head, nodes-expr, nodes-exprs, nodes-arg, nodes-args, nodes-block, nodes-cmds, nodes-def, nodes-stat}
+use Rattle.language.specs.Order.{JudgedNode, expr-node, adr-node, param-node, single-node, def-node, stat-node, after-def, nodes-after, nodes-params, nodes-head, nodes-expr, nodes-exprs, nodes-arg, nodes-args, nodes-block, nodes-cmds, nodes-def, nodes-stat}
 use Rattle.language.specs.Claims.{Opened, TyFits, TysFit, AllNodes, no-node, one-more, Comparable}
 use Rattle.language.proofs.typing.Nesting.{FitsType, FitsTypes, FitsParam, FitsParams, FitsExpr, FitsExprs, FitsArg, FitsArgs, FitsBlock, FitsCmds, FitsDef, FitsStat}
 
@@ -124,9 +124,12 @@ all-both (one-more h r) k = one-more h (all-both r k)
 one-node : (n : JudgedNode) → Comparable n → AllNodes Comparable (n ∷ [])
 one-node n h = one-more {n = n} h no-node
 
+all-after : (xs : List Name) (ps : List ArgP) → AllNodes Comparable (nodes-after xs ps)
+all-after xs [] = no-node
+all-after xs (a ∷ ps) = one-more {n = param-node a} tt (one-more {n = single-node xs a} tt (all-after _ ps))
+
 all-params : (ps : List ArgP) → AllNodes Comparable (nodes-params ps)
-all-params [] = no-node
-all-params (a ∷ ps) = one-more {n = param-node a} tt (all-params ps)
+all-params ps = all-after [] ps
 
 all-head : (g : Option Op) (l : List JudgedNode) → AllNodes Comparable l → AllNodes Comparable (nodes-head g l)
 all-head none l h = h

@@ -9,10 +9,10 @@ use Rattle.language.specs.Syntax.{Name, at, ArgP, Expr, num, name, if-ex
 use Rattle.language.specs.Answers.{Result, fine}
 use Rattle.language.specs.Names.{Op, Meaning, literal, operator, free, lookup, meaning, unless-nine, head-operator}
 use Rattle.language.specs.Types.{Ty, base, fn, Tys, BOOL, INT, typeOf, Par, ref, Entity, plain, procedure, Ctx, find, values, takes, result}
-use Rattle.language.specs.Typing.{Free, AllDeclarable, HasE, NUM, LITERAL, IDV, IDR, IF, AND, OR, PRIM, APP, ABS, HasEs, ONE, MORE, HasA, REF, VAL, HasAs, NO-ARGS, ARGS, HasB, BLOC, HasC, DECS, STATS, END, HasD, CONST, FUN, FUNREC, VAR, PROC, PROCREC, HasS, ECHO, SET, IFS, WHILE, CALL}
+use Rattle.language.specs.Typing.{Free, DeclarableAfter, AllDeclarable, HasE, NUM, LITERAL, IDV, IDR, IF, AND, OR, PRIM, APP, ABS, HasEs, ONE, MORE, HasA, REF, VAL, HasAs, NO-ARGS, ARGS, HasB, BLOC, HasC, DECS, STATS, END, HasD, CONST, FUN, FUNREC, VAR, PROC, PROCREC, HasS, ECHO, SET, IFS, WHILE, CALL}
 use Rattle.language.specs.Order.{after-def}
 use Rattle.language.proofs.typing.Names.{head-typed}
-use Rattle.language.proofs.typing.Judge.{andThen, judged, only, passes, andb, same-type, is-free, is-base, read-type, name-type, judge-app, judge-params, judge-expr, judge-exprs, ref-type, call-pars, fits-ref, fits-call, as-ref, judge-arg, judge-args, judge-block, judge-cmds, judge-def, judge-stat}
+use Rattle.language.proofs.typing.Judge.{andThen, judged, only, passes, single, andb, same-type, is-free, is-base, read-type, name-type, judge-app, judge-after, judge-params, judge-expr, judge-exprs, ref-type, call-pars, fits-ref, fits-call, as-ref, judge-arg, judge-args, judge-block, judge-cmds, judge-def, judge-stat}
 use Rattle.language.proofs.typing.SameType.{andb-in, same-type-refl, same-types-refl, same-pars-refl, free-in, base-in, declarable-in}
 
 -- a result that is there, and is a
@@ -49,10 +49,18 @@ bound-in (literal b) o e h = absurd (Option·none-ne-some _ e)
 bound-in (operator f) o e h = absurd (Option·none-ne-some _ e)
 bound-in {t = t} free o e h = subst (λ o. IsO t (read-type o)) (sym e) h
 
+pub is-single : (p : ℕ) (b : Bool) → b ≡ false → Is tt (single p b)
+unfolding single
+is-single p true h = absurd (subst T h tt)
+is-single p false h = is
+
+complete-after : (xs : List Name) (ps : List ArgP) → DeclarableAfter xs ps → Is tt (judge-after xs ps)
+unfolding judge-after
+complete-after xs [] h = is
+complete-after xs (a ∷ ps) h = is-then _ (is-pass _ _ (declarable-in a (h .0))) (is-then _ (is-single _ _ (h .1)) (complete-after _ ps (h .2)))
+
 pub complete-params : (ps : List ArgP) → AllDeclarable ps → Is tt (judge-params ps)
-unfolding judge-params
-complete-params [] h = is
-complete-params (a ∷ ps) h = is-then _ (is-pass _ _ (declarable-in a (h .0))) (complete-params ps (h .1))
+complete-params ps h = complete-after [] ps h
 
 prim-in : (p : ℕ) (f : Result Ty) {es : Result Tys} {o : Op} (g : Option Op) → g ≡ some o → Is (takes o) es → Is (base (result o)) (judge-app p g f es)
 prim-in p f {es} {o} g e h =

@@ -23,7 +23,7 @@ inner-requires : tie.Need-inner-requires Inv-loop μ-loop
 inner-requires c κs = omega (arith, c .before .before .before .before .before .before .pre)
 
 outer-requires : tie.Need-outer-requires Inv-loop μ-loop
-outer-requires c κs = search needs
+outer-requires c κs = omega (arith, c .before .before .before .before .before .before .before .before .pre)
 
 row-after-requires : tie.Need-row-after-requires Inv-loop μ-loop
 row-after-requires c κs = search needs

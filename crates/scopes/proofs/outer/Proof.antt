@@ -1,7 +1,7 @@
 -- Written by tools/prove from Proof.tmpl.
+use native.Mathlib.Omega.{arith}
 use borrow.Author.Needs.{needs}
 use borrow.Author.Tests.{eq-eqb, ne-eqb}
-use Rattle.judge.specs.Names.{sameName}
 use Rattle.judge.specs.Scopes.{outerAt}
 use Rattle.scopes.proofs.outer.Statement.{statement}
 use Rattle.scopes.proofs.outer.Tie as tie
@@ -16,82 +16,34 @@ env-at-requires : tie.Need-env-at-requires
 env-at-requires c κs = search needs
 
 returns : tie.Need-returns
-unfolding outerAt sameName
-returns c =
-    rw (
-      ← c .before .before .before .kind-at .ensures,
-      ← c .before .before .binds-of .ensures,
-      eq-eqb _ 0 (c .before .if1 .taken),
-      ← c .env-at .ensures .0,
-    )
+unfolding outerAt
+returns c = rw (← c .before .before .before .kind-at .ensures, ← c .before .before .binds-of .ensures, eq-eqb _ 0 (c .before .if1 .taken), ← c .env-at .ensures .0)
 
 returns-2 : tie.Need-returns-2
-unfolding outerAt sameName
-returns-2 c =
-    rw (
-      ← c .before .before .before .kind-at .ensures,
-      ← c .before .before .binds-of .ensures,
-      ne-eqb _ 0 (c .before .if1 .left),
-      eq-eqb _ 1 (c .if2 .taken),
-    )
+unfolding outerAt
+returns-2 c = rw (← c .before .before .before .kind-at .ensures, ← c .before .before .binds-of .ensures, ne-eqb _ 0 (c .before .if1 .left), eq-eqb _ 1 (c .if2 .taken))
+
+add-result : tie.Need-add-result
+add-result c = omega (arith, c .before .before .before .before .before .before .before .pre)
+
+mul-result : tie.Need-mul-result
+mul-result c = omega (arith, c .before .before .before .before .before .before .before .pre)
+
+shown-requires : tie.Need-shown-requires
+shown-requires c κs = c .before .before .before .before .before .before .before .pre
+
+add-result-2 : tie.Need-add-result-2
+add-result-2 c = omega (arith, c .before .before .before .before .before .before .before .before .pre, c .shown .ensures .1)
 
 returns-3 : tie.Need-returns-3
-unfolding outerAt sameName
+unfolding outerAt
 returns-3 c =
     rw (
       ← c .before .before .before .before .kind-at .ensures,
       ← c .before .before .before .binds-of .ensures,
       ne-eqb _ 0 (c .before .before .if1 .left),
       ne-eqb _ 1 (c .before .if2 .left),
-      eq-eqb _ 0 (c .if3 .taken),
-    )
-
-place-at-requires : tie.Need-place-at-requires
-place-at-requires c κs = search needs
-
-child-at-requires : tie.Need-child-at-requires
-child-at-requires c κs = search needs
-
-place-at-requires-2 : tie.Need-place-at-requires-2
-place-at-requires-2 c κs = search needs
-
-same-name-requires : tie.Need-same-name-requires
-same-name-requires c κs = search needs
-
-env-at-requires-2 : tie.Need-env-at-requires-2
-env-at-requires-2 c κs = search needs
-
-returns-4 : tie.Need-returns-4
-unfolding outerAt sameName
-returns-4 c =
-    rw (
-      ← c .before .before .before .before .before .before .before .before .before .before .kind-at .ensures,
-      ← c .before .before .before .before .before .before .before .before .before .binds-of .ensures,
-      ne-eqb _ 0 (c .before .before .before .before .before .before .before .before .if1 .left),
-      ne-eqb _ 1 (c .before .before .before .before .before .before .before .if2 .left),
-      ne-eqb _ 0 (c .before .before .before .before .before .before .if3 .left),
-      ← c .before .before .before .before .before .place-at .ensures,
-      ← c .before .before .before .before .child-at .ensures,
-      ← c .before .before .before .place-at2 .ensures,
-      ← c .before .before .same-name .ensures,
-      c .before .if4 .taken,
-      ← c .env-at2 .ensures .0,
-    )
-
-returns-5 : tie.Need-returns-5
-unfolding outerAt sameName
-returns-5 c =
-    rw (
-      ← c .before .before .before .before .before .before .before .before .before .kind-at .ensures,
-      ← c .before .before .before .before .before .before .before .before .binds-of .ensures,
-      ne-eqb _ 0 (c .before .before .before .before .before .before .before .if1 .left),
-      ne-eqb _ 1 (c .before .before .before .before .before .before .if2 .left),
-      ne-eqb _ 0 (c .before .before .before .before .before .if3 .left),
-      ← c .before .before .before .before .place-at .ensures,
-      ← c .before .before .before .child-at .ensures,
-      ← c .before .before .place-at2 .ensures,
-      ← c .before .same-name .ensures,
-      c .if4 .left,
+      ← c .shown .ensures .0,
     )
 
 pub outer-spec : {M : Type 1} → statement M
@@ -103,11 +55,8 @@ outer-spec =
     env-at-requires
     returns
     returns-2
-    returns-3
-    place-at-requires
-    child-at-requires
-    place-at-requires-2
-    same-name-requires
-    env-at-requires-2
-    returns-4
-    returns-5)
+    add-result
+    mul-result
+    shown-requires
+    add-result-2
+    returns-3)

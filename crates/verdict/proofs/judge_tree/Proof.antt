@@ -1,5 +1,5 @@
 -- Written by tools/prove from Proof.tmpl.
--- `judge_tree`: with no refused node the tree stays; else its place is read before the tree is cleared.
+-- `judge_tree`: with no refused node the tree stays; else the verdict is read off it before it is cleared.
 use borrow.Author.Needs.{needs}
 use Rattle.verdict.proofs.Clearing.{goes, part-long, stays}
 use Rattle.verdict.proofs.judge_tree.Statement.{statement}
@@ -14,6 +14,16 @@ slice-aggregate-settle c = part-long 4096 (c .before .before .before .before .be
 settle-requires : tie.Need-settle-requires
 settle-requires c κs = search needs
 
+slice-reshare-prefix-verdict-at : tie.Need-slice-reshare-prefix-verdict-at
+slice-reshare-prefix-verdict-at c = search needs
+
+slice-aggregate-verdict-at : tie.Need-slice-aggregate-verdict-at
+slice-aggregate-verdict-at c =
+    part-long 4096 (c .before .before .before .before .before .before .before .before .before .before .before .before .before .args .tree .now) (search needs)
+
+verdict-at-requires : tie.Need-verdict-at-requires
+verdict-at-requires c κs = search needs
+
 same-length : tie.Need-same-length
 same-length c = search needs
 
@@ -24,21 +34,7 @@ same-length-3 : tie.Need-same-length-3
 same-length-3 c = search needs
 
 returns : tie.Need-returns
-returns c = stays (c .before .before .before .before .before .settle .ensures) (c .if1 .taken)
-
-slice-reshare-prefix-place-at : tie.Need-slice-reshare-prefix-place-at
-slice-reshare-prefix-place-at c = search needs
-
-slice-aggregate-place-at : tie.Need-slice-aggregate-place-at
-slice-aggregate-place-at c =
-    part-long 4096 (c .before .before .before .before .before .before .before .before .before .before .before .before .before .before .args .tree
-    .now) (search needs)
-
-sub-place-at : tie.Need-sub-place-at
-sub-place-at c = search needs
-
-place-at-requires : tie.Need-place-at-requires
-place-at-requires c κs = search needs
+returns c = stays (c .before .before .before .before .before .before .before .settle .ensures) (c .before .verdict-at .ensures) (c .if1 .taken)
 
 clear-words-requires : tie.Need-clear-words-requires
 clear-words-requires c κs = search needs
@@ -54,8 +50,10 @@ same-length-6 c = search needs
 
 returns-2 : tie.Need-returns-2
 returns-2 c =
-    goes (c .before .before .before .before .before .before .before .before .before .before .before .settle .ensures) (c .before .before .before
-    .before .before .before .if1 .left) (c .before .before .before .before .place-at .ensures) (c .before .before .clear-words .ensures)
+    goes (c .before .before .before .before .before .before .before .before .before .before .before .settle .ensures)
+    (c .before .before .before .before .before .verdict-at .ensures)
+    (c .before .before .before .before .if1 .left)
+    (c .before .before .clear-words .ensures)
 
 pub judge-tree-spec : {M : Type 1} → statement M
 judge-tree-spec =
@@ -64,14 +62,13 @@ judge-tree-spec =
     slice-reshare-prefix-settle
     slice-aggregate-settle
     settle-requires
+    slice-reshare-prefix-verdict-at
+    slice-aggregate-verdict-at
+    verdict-at-requires
     same-length
     same-length-2
     same-length-3
     returns
-    slice-reshare-prefix-place-at
-    slice-aggregate-place-at
-    sub-place-at
-    place-at-requires
     clear-words-requires
     same-length-4
     same-length-5

@@ -27,7 +27,7 @@ impl Random {
 }
 
 /// The five tariffs of examples/, the scripts of document 01, and others that end in each way.
-const SCRIPTS: [&str; 35] = [
+const SCRIPTS: [&str; 36] = [
     include_str!("../../../../../examples/bands.aps"),
     include_str!("../../../../../examples/daycap.aps"),
     include_str!("../../../../../examples/fares.aps"),
@@ -62,6 +62,7 @@ const SCRIPTS: [&str; 35] = [
     "[CONST n int 2; FUN f int [m:int] (mul n m); FUN g int [n:int] (f n); ECHO (g 5); ECHO (g -5)]",
     "[VAR b bool; SET b (or true false); WHILE b [ECHO 7; SET b (not b)]]",
     "[FUN f (int -> int) [a:int] [b:int] (sub a b); ECHO ((f 9) 4)]",
+    "[FUN fare int [zones:int, peak:bool, zones:int] (mul zones 95); ECHO (fare 1 true 2)]",
     "12ab 1-2 -> - > 007 VARx var adr\t(adr",
 ];
 

@@ -11,6 +11,9 @@ place-at-requires c κs = search needs
 free-rule-requires : tie.Need-free-rule-requires
 free-rule-requires c κs = search needs
 
+single-rule-requires : tie.Need-single-rule-requires
+single-rule-requires c κs = search needs
+
 place-at-requires-2 : tie.Need-place-at-requires-2
 place-at-requires-2 c κs = search needs
 
@@ -20,14 +23,23 @@ child-at-requires c κs = search needs
 cell-rule-requires : tie.Need-cell-rule-requires
 cell-rule-requires c κs = search needs
 
+single-rule-requires-2 : tie.Need-single-rule-requires-2
+single-rule-requires-2 c κs = search needs
+
 returns : tie.Need-returns
 unfolding paramBy
-returns c = rw (c .before .before .match .keys1, ← c .before .place-at .ensures, c .free-rule .ensures)
+returns c = rw (c .before .before .before .match .keys1, ← c .before .before .place-at .ensures, ← c .before .free-rule .ensures, c .single-rule .ensures)
 
 returns-2 : tie.Need-returns-2
 unfolding paramBy
 returns-2 c =
-    rw (c .before .before .before .match .keys2, ← c .before .before .place-at2 .ensures, ← c .before .child-at .ensures, c .cell-rule .ensures)
+    rw (
+      c .before .before .before .before .match .keys2,
+      ← c .before .before .before .place-at2 .ensures,
+      ← c .before .before .child-at .ensures,
+      ← c .before .cell-rule .ensures,
+      c .single-rule2 .ensures,
+    )
 
 returns-3 : tie.Need-returns-3
 unfolding paramBy
@@ -39,9 +51,11 @@ param-by-spec =
     (tie.spec
     place-at-requires
     free-rule-requires
+    single-rule-requires
     place-at-requires-2
     child-at-requires
     cell-rule-requires
+    single-rule-requires-2
     returns
     returns-2
     returns-3)
