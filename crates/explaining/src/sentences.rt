@@ -137,28 +137,6 @@ fn mark_of(found: Found) -> u8 {
     }
 }
 
-// The place past a word, or `at` where there is none.
-fn past(found: Found, at: usize) -> usize {
-    match found {
-        Found::Mark {
-            number: _,
-            start: _,
-            end,
-        } => end,
-        Found::Number {
-            value: _,
-            start: _,
-            end,
-        } => end,
-        Found::Name { start: _, end } => end,
-        Found::End => at,
-        Found::Refused {
-            number: _,
-            place: _,
-        } => at,
-    }
-}
-
 fn say_nine() {
     lines::text(b"the name may not be true, false, not, eq, lt, add, sub, mul or div");
 }
@@ -201,9 +179,11 @@ fn say_type_of_call() {
 
 // The first word of a node tells its rule.
 fn say_type(text: &[u8], place: usize) {
-    let found = reader::read_at(text, place);
-    let next = mark_of(reader::read_at(text, past(found, place)));
-    match mark_of(found) {
+    let words = reader::two_words(text, place);
+    let first = words.first;
+    let second = words.second;
+    let next = mark_of(second);
+    match mark_of(first) {
         0 => say_type_of_name(next),
         OPENING => say_type_inside(next),
         CONST => {
