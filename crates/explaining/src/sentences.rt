@@ -228,9 +228,11 @@ fn say_type_of_call() {
 
 // The first word of a node tells its rule.
 fn say_type(text: &[u8], place: usize) {
-    let found = reader::read_at(text, place);
-    let next = mark_of(reader::read_at(text, past(found, place)));
-    match mark_of(found) {
+    let words = reader::two_words(text, place);
+    let first = words.first;
+    let second = words.second;
+    let next = mark_of(second);
+    match mark_of(first) {
         0 => say_type_of_name(next),
         OPENING => say_type_inside(next),
         CONST => {
@@ -265,7 +267,8 @@ fn earlier_of(text: &[u8], place: usize) -> usize {
     let mut at: usize = 0;
     let mut left: u64 = 4_096; // a script's words
     while 0 < left {
-        let found = reader::read_at(text, at);
+        let words = reader::two_words(text, at);
+        let found = words.first;
         let start = start_of(found, place);
         if place <= start {
             return earlier;

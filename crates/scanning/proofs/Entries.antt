@@ -1,15 +1,16 @@
 -- One turn of the loop over a text's words: what the next word, as an entry, says of those from a place on.
-use mathlib.Core.Path.{_≡_, refl, sym, _∙_, ap, subst}
-use mathlib.Core.List.{List, []}
+use mathlib.Core.Path.{_≡_, refl, sym, _∙_, ap}
+use mathlib.Core.List.{List}
 use Prim.Native.Nat.{ℕ, _+_, _*_, _%_, _<_, _≤_}
 use native.Mathlib.Omega.{arith}
 use lib.ListN.{length, drop, set}
-use Rattle.language.specs.Answers.{Refusal, Result, fine, refuse, refusal-number}
+use Rattle.language.specs.Answers.{Result, fine, refuse}
 use Rattle.language.specs.Words.{Word, place-word, before, wordsFrom}
 use Rattle.words.specs.Next.{foundFrom}
 use Rattle.words.specs.declared.Found.{Found}
 use Rattle.words.specs.declared.Found.the-variants as found
-use Rattle.words.proofs.Answers.{WordRead, WordsRefused, Says, answered}
+use Rattle.words.proofs.Answers.{WordRead, Says, answered}
+use Rattle.reader.specs.Past.{pastFound}
 use Rattle.scanning.specs.declared.Next.{Next}
 use Rattle.scanning.specs.declared.Next.the-variants as next
 use Rattle.scanning.specs.Entries.{entry-of}
@@ -25,17 +26,21 @@ stored-first : (w : Word) (r : Result (List Word)) (l : List ℕ) (n over : ℕ)
 stored-first w (fine ws) l n over = refl
 stored-first w (refuse r p) l n over = refl
 
--- what an entry says
+-- what an entry says, and the place that the reader comes to
 module _ (text : List ℕ) (i : ℕ) where
   pub record Took (entry end : ℕ) : Type 0 where
     pub further : i < end
     pub inside : end ≤ length text
     pub turn : (l : List ℕ) (n over : ℕ) → left text i l n over ≡ left text end (set l n entry) (n + 1) (first-over n (length l) (entry % 65536) over)
 
-  abbrev pub Tells : Next → Type 0
-  Tells (next.Word entry end) = Took entry end
-  Tells next.End = (l : List ℕ) (n over : ℕ) → left text i l n over ≡ counted l n over
-  Tells (next.Refused number place) = (l : List ℕ) (n over : ℕ) → left text i l n over ≡ halted number place
+  pub record Stopped (end : ℕ) (is : List ℕ → (n over : ℕ) → Ended) : Type 0 where
+    pub stays : end ≡ i
+    pub ends : (l : List ℕ) (n over : ℕ) → left text i l n over ≡ is l n over
+
+  abbrev pub Tells : Next → (end : ℕ) → Type 0
+  Tells (next.Word entry) end = Took entry end
+  Tells next.End end = Stopped end counted
+  Tells (next.Refused number place) end = Stopped end (λ l n over. halted number place)
 
   module _ (short : length text ≤ 65536) where
     took : (k p e : ℕ) → WordRead text i k p e → Took (k * 65536 + p % 65536) e
@@ -52,13 +57,16 @@ module _ (text : List ℕ) (i : ℕ) where
               ∙ ap (λ (q : ℕ). left text e (set l n (k * 65536 + p % 65536)) (n + 1) (first-over n (length l) q over)) (sym place);
         }
 
-    tells : (f : Found) → Says text i f → Tells (entry-of f)
-    tells found.End h = λ l n over. ap (λ (r : Result (List Word)). scanned r l n over) h
+    tells : (f : Found) → Says text i f → Tells (entry-of f) (pastFound f i)
+    tells found.End h = record { stays = refl; ends = λ l n over. ap (λ (r : Result (List Word)). scanned r l n over) h }
     tells (found.Mark k p e) h = took k p e h
     tells (found.Number z p e) h = took _ p e h
     tells (found.Name p e) h = took _ p e h
     tells (found.Refused c p) h =
-        λ l n over. ap (λ (r : Result (List Word)). scanned r l n over) (h .words) ∙ ap (λ (k : ℕ). halted k p) (h .numbered)
+        record {
+          stays = refl;
+          ends = λ l n over. ap (λ (r : Result (List Word)). scanned r l n over) (h .words) ∙ ap (λ (k : ℕ). halted k p) (h .numbered);
+        }
 
-    pub told-by : (f : Found) (x : Next) → f ≡ foundFrom text i → entry-of f ≡ x → Tells x
-    told-by f x e q = subst Tells q (tells f (answered text i f e))
+    pub told : Tells (entry-of (foundFrom text i)) (pastFound (foundFrom text i) i)
+    told = tells (foundFrom text i) (answered text i (foundFrom text i) refl)

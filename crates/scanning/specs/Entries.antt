@@ -6,13 +6,13 @@ use Rattle.words.specs.declared.Found.the-variants as found
 use Rattle.scanning.specs.declared.Next.{Next}
 use Rattle.scanning.specs.declared.Next.the-variants.{Word, End, Refused}
 
--- a word's kind and its place, and the place past it
-abbrev pub entry-at : (kind start end : ℕ) → Next
-entry-at kind start end = Word (kind * 65536 + start % 65536) end
+-- a word's kind and its place
+abbrev pub entry-at : (kind start : ℕ) → Next
+entry-at kind start = Word (kind * 65536 + start % 65536)
 
 abbrev pub entry-of : Found → Next
 entry-of found.End = End
-entry-of (found.Mark kind start end) = entry-at kind start end
-entry-of (found.Number value start end) = entry-at tNum start end
-entry-of (found.Name start end) = entry-at tName start end
+entry-of (found.Mark kind start end) = entry-at kind start
+entry-of (found.Number value start end) = entry-at tNum start
+entry-of (found.Name start end) = entry-at tName start
 entry-of (found.Refused number place) = Refused number place

@@ -10,32 +10,32 @@ enum-told c = search needs
 enum-known-found : tie.Need-enum-known-found
 enum-known-found c = search needs
 
-cast-t12 : tie.Need-cast-t12
-cast-t12 c = search needs
+cast-t9 : tie.Need-cast-t9
+cast-t9 c = search needs
 
-mul-t13 : tie.Need-mul-t13
-mul-t13 c = search needs
+mul-t10 : tie.Need-mul-t10
+mul-t10 c = search needs
 
-add-t16 : tie.Need-add-t16
-add-t16 c = search needs
+add-t13 : tie.Need-add-t13
+add-t13 c = search needs
 
 enum-known-found-2 : tie.Need-enum-known-found-2
 enum-known-found-2 c = search needs
 
-mul-t17 : tie.Need-mul-t17
-mul-t17 c = search needs
+mul-t14 : tie.Need-mul-t14
+mul-t14 c = search needs
 
-add-t20 : tie.Need-add-t20
-add-t20 c = search needs
+add-t17 : tie.Need-add-t17
+add-t17 c = search needs
 
 enum-known-found-3 : tie.Need-enum-known-found-3
 enum-known-found-3 c = search needs
 
-mul-t21 : tie.Need-mul-t21
-mul-t21 c = search needs
+mul-t18 : tie.Need-mul-t18
+mul-t18 c = search needs
 
-add-t24 : tie.Need-add-t24
-add-t24 c = search needs
+add-t21 : tie.Need-add-t21
+add-t21 c = search needs
 
 enum-known-found-4 : tie.Need-enum-known-found-4
 enum-known-found-4 c = search needs
@@ -61,15 +61,15 @@ entry-of-spec =
     (tie.spec
     enum-told
     enum-known-found
-    cast-t12
-    mul-t13
-    add-t16
+    cast-t9
+    mul-t10
+    add-t13
     enum-known-found-2
-    mul-t17
-    add-t20
+    mul-t14
+    add-t17
     enum-known-found-3
-    mul-t21
-    add-t24
+    mul-t18
+    add-t21
     enum-known-found-4
     returns
     returns-2
