@@ -1,10 +1,7 @@
 -- The number by which code knows what a name is by itself: 0 where it is free to be bound, and the nine names from 1 on.
 use Prim.Native.Nat.{ℕ}
 use mathlib.Core.Bool.{true, false}
-use mathlib.Core.List.{List, map}
-use lib.ListN.{getD}
-use Rattle.language.specs.Syntax.{Name}
-use Rattle.language.specs.Names.{not, eq, lt, add, sub, mul, div, Meaning, literal, operator, free, nine-names}
+use Rattle.language.specs.Names.{not, eq, lt, add, sub, mul, div, Meaning, literal, operator, free}
 
 abbrev pub meaningNo : Meaning → ℕ
 meaningNo free = 0
@@ -17,10 +14,3 @@ meaningNo (operator add) = 6
 meaningNo (operator sub) = 7
 meaningNo (operator mul) = 8
 meaningNo (operator div) = 9
-
--- the byte that each of the nine names begins with
-abbrev pub first-byte : Name × Meaning → ℕ
-first-byte d = getD (d .0) 0 0
-
-abbrev pub first-bytes : List ℕ
-first-bytes = map first-byte nine-names

@@ -1,12 +1,12 @@
 // The tree table read node by node, and the names that its places point to: any words and any text, of any length, are read without a refusal.
 use tables::entry;
 ghost use mathlib.Core.Path.{_≡_};
+ghost use mathlib.Core.Bool.{cond};
 ghost use Rattle.language.specs.Bytes.{same-bytes};
 ghost use Rattle.language.specs.Words.{nameAt};
 ghost use Rattle.language.specs.Names.{meaning};
 ghost use Rattle.nodes.specs.Nodes.{nodeAt};
-ghost use Rattle.words.specs.Marks.{place-in};
-ghost use Rattle.nodes.specs.Names.{meaningNo, first-bytes};
+ghost use Rattle.nodes.specs.Names.{meaningNo};
 
 // A node's kind, its place in the text, and the numbers of its first child and next sibling (0: none).
 pub struct Node {
@@ -79,42 +79,35 @@ pub fn same_name(text: &[u8], p: u64, q: u64) -> bool
     )
 }
 
-// Which of the nine names begins with this byte: 1 to 9, and 0 for none. No two of them begin alike.
-fn begun(b: u8) -> usize
-    ensures { λ r. ⌜ r ≡ place-in 1 b first-bytes ⌝ }
+// The number `k` for a name that is these bytes, 0 for any other.
+fn number_if(bytes: &[u8], name: &[u8], k: u64) -> u64
+    ensures { λ r. ⌜ r ≡ cond (same-bytes (now (bytes .entry)) (now (name .entry))) k 0 ⌝ }
 {
-    match b {
-        b't' => 1,
-        b'f' => 2,
-        b'n' => 3,
-        b'e' => 4,
-        b'l' => 5,
-        b'a' => 6,
-        b's' => 7,
-        b'm' => 8,
-        b'd' => 9,
-        _ => 0,
+    if same_bytes(bytes, name) {
+        return k;
     }
+    0
 }
 
-// The ends of the nine names where they are written one behind the other; before the first stands an empty one.
-const ENDS: [usize; 11] = [0, 0, 4, 9, 12, 14, 16, 19, 22, 25, 28];
-
-// Which of the nine names these bytes are: 1 to 9, and 0 for any other name.
+// Which of the nine names these bytes are: 1 to 9, and 0 for any other name. No two of them begin alike, so that one is compared at most.
 fn meaning_of(name: &[u8]) -> u64
     ensures { λ r. ⌜ r ≡ meaningNo (meaning (now (name .entry))) ⌝ }
 {
     if name.len() == 0 {
         return 0;
     }
-    let k = begun(name[0]);
-    let from = ENDS[k];
-    let to = ENDS[k + 1];
-    let names: &[u8] = b"truefalsenoteqltaddsubmuldiv";
-    if same_bytes(&names[from..to], name) {
-        return k as u64;
+    match name[0] {
+        b't' => number_if(b"true", name, 1),
+        b'f' => number_if(b"false", name, 2),
+        b'n' => number_if(b"not", name, 3),
+        b'e' => number_if(b"eq", name, 4),
+        b'l' => number_if(b"lt", name, 5),
+        b'a' => number_if(b"add", name, 6),
+        b's' => number_if(b"sub", name, 7),
+        b'm' => number_if(b"mul", name, 8),
+        b'd' => number_if(b"div", name, 9),
+        _ => 0,
     }
-    0
 }
 
 // Which of the nine names stands at the place `p`: 1 to 9, and 0 for any other name.

@@ -34,16 +34,24 @@ act-in r = r / 4194304 % 4
 abbrev pub kind-in : ℕ → ℕ
 kind-in r = r / 131072 % 32
 
--- the rule for a kind of word among some, and for an entry and a word: 0 for none
+-- the rule for a kind of word among some: 0 for none
 unfoldable pub found : ℕ → List ℕ → ℕ
 found k [] = 0
 found k (r ∷ rs) = cond (eqb k (r / 16777216)) (r % 16777216) (found k rs)
 
+-- by a table of rules and one of where each symbol's start: the rules of the symbol y, up to where the next one's start; the rule for an entry and a word
+abbrev pub rules-of-symbol : (rules starts : List ℕ) → ℕ → List ℕ
+rules-of-symbol rules starts y = take (getD starts (y + 1) 0 - getD starts y 0) (drop (getD starts y 0) rules)
+
+abbrev pub rule-in : (rules starts : List ℕ) → ℕ → ℕ → ℕ
+rule-in rules starts w x = found (x / 65536) (rules-of-symbol rules starts (sym-in w))
+
+-- the same by the grammar's tables
 abbrev pub rules-at : ℕ → List ℕ
-rules-at y = take (getD rule-starts (y + 1) 0 - getD rule-starts y 0) (drop (getD rule-starts y 0) rule-list)
+rules-at y = rules-of-symbol rule-list rule-starts y
 
 unfoldable pub rule-for : ℕ → ℕ → ℕ
-rule-for w x = cond (leb 41 (sym-in w)) 0 (found (x / 65536) (rules-at (sym-in w)))
+rule-for w x = rule-in rule-list rule-starts w x
 
 -- the level that a rule opens: 0 for none
 unfoldable pub level-opened : ℕ → ℕ → ℕ

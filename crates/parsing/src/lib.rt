@@ -28,6 +28,9 @@ pub fn parse(end: usize, words: &[u64], stack: &mut [u64], tree: &mut [u64], top
     requires { ⌜ (length (now words) ≤ top) × (top ≤ length (now stack)) × (length (now words) ≤ length (now tree)) × (length (now words) ≤ 4096) ⌝ }
     ensures { λ r. ⌜ run end (now (words .entry)) (drop top (now (stack .entry))) (now (tree .entry)) 0 ≡ ending r (now (tree .exit)) ⌝ }
 {
+    // Made once and lent: an array of constants is written out anew wherever it is named.
+    let rules = rules::RULES;
+    let starts = rules::STARTS;
     let mut i = 0;
     let mut at = top;
     let mut m = 0;
@@ -38,7 +41,7 @@ pub fn parse(end: usize, words: &[u64], stack: &mut [u64], tree: &mut [u64], top
             return Outcome::Refused(SYNTAX, place as usize);
         }
         let w = stack[at];
-        let r = rules::rule_for(w, x);
+        let r = rules::rule_for(&rules, &starts, w, x);
         if r == 0 {
             return Outcome::Refused(SYNTAX, place as usize);
         }

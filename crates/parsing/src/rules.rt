@@ -1,13 +1,12 @@
 // The grammar's rules as a table.
 
 ghost use mathlib.Core.Path.{_≡_};
-ghost use Prim.Native.Nat.{_-_, _<_};
-ghost use lib.ListN.{getD, take, drop};
-ghost use Rattle.parsing.specs.Codes.{rule-list, rule-starts};
-ghost use Rattle.parsing.specs.Steps.{found, rule-for};
+ghost use Prim.Native.Nat.{_-_};
+ghost use lib.ListN.{take, drop};
+ghost use Rattle.parsing.specs.Steps.{found, rule-in};
 
 // The rules of each symbol of the grammar's machine, the kind of word in the first byte: what such a word writes and pushes where the symbol stands.
-const RULES: [u32; 112] = [
+pub const RULES: [u32; 112] = [
     // a block
     0x01828101,
     // a command
@@ -164,7 +163,7 @@ const RULES: [u32; 112] = [
 ];
 
 // Where each symbol's rules start, and where the last one's end.
-const STARTS: [u8; 42] = [
+pub const STARTS: [u8; 42] = [
     0,
     1,
     10,
@@ -209,30 +208,16 @@ const STARTS: [u8; 42] = [
     112,
 ];
 
-fn rule_at(i: usize) -> u32
-    requires { ⌜ i < 112 ⌝ }
-    ensures { λ r. ⌜ r ≡ getD rule-list i 0 ⌝ }
-{
-    RULES[i]
-}
-
-fn start_of(symbol: usize) -> u8
-    requires { ⌜ symbol < 42 ⌝ }
-    ensures { λ r. ⌜ r ≡ getD rule-starts symbol 0 ⌝ }
-{
-    STARTS[symbol]
-}
-
 // The rule for a kind of word, of those from one place of the table up to another: 0 where there is none.
-fn find(kind: u64, from: usize, to: usize) -> u64
-    ensures { λ r. ⌜ r ≡ found kind (take (to - from) (drop from rule-list)) ⌝ }
+fn find(rules: &[u32], kind: u64, from: usize, to: usize) -> u64
+    ensures { λ r. ⌜ r ≡ found kind (take (to - from) (drop from (now (rules .entry)))) ⌝ }
 {
     let mut i = from;
     while i < to {
-        if 112 <= i {
+        if rules.len() <= i {
             return 0;
         }
-        let rule = rule_at(i) as u64;
+        let rule = rules[i] as u64;
         if kind == rule / 16777216 {
             return rule % 16777216;
         }
@@ -241,15 +226,15 @@ fn find(kind: u64, from: usize, to: usize) -> u64
     0
 }
 
-// The rule for the entry `w` of the stack and the word `x`: 0 where there is none.
-pub fn rule_for(w: u64, x: u64) -> u64
-    ensures { λ r. ⌜ r ≡ rule-for w x ⌝ }
+// The rule for the entry `w` of the stack and the word `x`, by the tables `RULES` and `STARTS` that it is lent: 0 where there is none.
+pub fn rule_for(rules: &[u32], starts: &[u8], w: u64, x: u64) -> u64
+    ensures { λ r. ⌜ r ≡ rule-in (now (rules .entry)) (now (starts .entry)) w x ⌝ }
 {
     let symbol = (w / 1099511627776) as usize;
-    if 41 <= symbol {
+    if starts.len() <= symbol + 1 {
         return 0;
     }
-    let from = start_of(symbol) as usize;
-    let to = start_of(symbol + 1) as usize;
-    find(x / 65536, from, to)
+    let from = starts[symbol] as usize;
+    let to = starts[symbol + 1] as usize;
+    find(rules, x / 65536, from, to)
 }

@@ -7,7 +7,7 @@ use Prim.Native.Nat.{ℕ, zero, suc, _+_, _-_, _*_, _/_, _%_, _<_, _≤_}
 use native.Mathlib.Numerals.{add-one}
 use native.Mathlib.Omega.{arith}
 use lib.Dec.{eqb, ltb}
-use borrow.Author.Tests.{lt-leb, ltb-true}
+use borrow.Author.Tests.{ltb-true}
 use Rattle.language.specs.Words.{Mark, kLbr, kRbr, kLpar, kRpar, kSemi, kColon, kComma, kStar, kArrow, kCONST, kFUN, kREC, kVAR, kPROC, kECHO, kSET}
 use Rattle.language.specs.Words.{kIF, kWHILE, kCALL, kif, kand, kor, kbool, kint, kvar, kadr, Word, mark, number, named, place-word}
 use Rattle.language.proofs.reading.Machine.{code, tag, cal, lev, ctx, Ctx, down, Sym, Act, Push, kid, deep, same, body, back, call, Rule, rule, rules}
@@ -212,7 +212,7 @@ module _ (X : Sym) (q : ℕ) (u : Ctx) (hq : q < 65536) (hc : cal u < 65536) (hd
   unfolding rule-for
   rule-found x hp =
       let kind : word-entry x / 65536 ≡ tag x = omega arith in
-      rw (sym-of, kind, lt-leb 41 (sym-code X) (known X .small), known X .listed) (found-picked (tag x) (rules X) (known X .kinds))
+      rw (sym-of, kind, known X .listed) (found-picked (tag x) (rules X) (known X .kinds))
 
   -- the level that it opens
   pub opened-found : (k : ℕ) (a : Act) (ps : Option Push) (ns : Option Sym)

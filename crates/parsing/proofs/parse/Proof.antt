@@ -3,14 +3,15 @@ use mathlib.Core.Path.{_≡_, _∙_}
 use Prim.Native.Nat.{_≤_, _<_, _+_, _-_}
 use native.Mathlib.Omega.{arith}
 use lib.ListN.{length, drop}
-use Rattle.parsing.specs.Steps.{run}
+use Rattle.parsing.specs.Codes.{rule-list, rule-starts}
+use Rattle.parsing.specs.Steps.{rule-for, run}
 use Rattle.parsing.proofs.Loops.{turn, refused, too-deep, emptied, ended, short}
 use borrow.Author.Needs.{needs}
 use Rattle.parsing.proofs.parse.Statement.{statement}
 use Rattle.parsing.proofs.parse.Tie as tie
 
 abbrev Inv-loop : tie.InvT-loop
-Inv-loop end words stack₀ tree₀ top i₀ at₀ m₀ stack tree i at m =
+Inv-loop end words stack₀ tree₀ top rules starts i₀ at₀ m₀ stack tree i at m =
     (i ≤ length words)
     × (m ≤ i)
     × (length words ≤ at + i)
@@ -20,7 +21,7 @@ Inv-loop end words stack₀ tree₀ top i₀ at₀ m₀ stack tree i at m =
     × (run end words (drop top stack₀) tree₀ 0 ≡ run end (drop i words) (drop at stack) tree m)
 
 abbrev μ-loop : tie.MeasureT-loop
-μ-loop end words stack₀ tree₀ top i₀ at₀ m₀ stack tree i at m = length words - i
+μ-loop end words stack₀ tree₀ top rules starts i₀ at₀ m₀ stack tree i at m = length words - i
 
 loop-holds : tie.Need-loop-holds Inv-loop μ-loop
 loop-holds c = search needs
@@ -49,6 +50,12 @@ mul-w c = search needs
 slice-read-w : tie.Need-slice-read-w Inv-loop μ-loop
 slice-read-w c = search needs
 
+slice-aggregate-rule-for : tie.Need-slice-aggregate-rule-for Inv-loop μ-loop
+slice-aggregate-rule-for c = search needs
+
+slice-aggregate-rule-for-2 : tie.Need-slice-aggregate-rule-for-2 Inv-loop μ-loop
+slice-aggregate-rule-for-2 c = search needs
+
 rule-for-requires : tie.Need-rule-for-requires Inv-loop μ-loop
 rule-for-requires c κs = search needs
 
@@ -59,12 +66,14 @@ same-length-4 : tie.Need-same-length-4 Inv-loop μ-loop
 same-length-4 c = search needs
 
 returns-2 : tie.Need-returns-2 Inv-loop μ-loop
+unfolding rule-for rule-list rule-starts
 returns-2 c =
-    let A = c .before .before .before .before .before .before .before .before .before .before .args in
-    let L = c .before .before .before .before .before .before .loop in
+    let A = c .before .before .before .before .before .before .before .before .before .before .before .before .args in
+    let L = c .before .before .before .before .before .before .before .before .loop in
     let R = c .before .rule-for in
     let he : L .at < length (L .stack) = omega arith in
-    L .inv .6 ∙ refused (A .end) (A .words .now) (L .stack) (L .tree) (L .i) (L .at) (L .m) (c .before .before .before .before .before .loop-test .taken) he (R .result) (R .ensures) (c .if2 .taken)
+    let test = c .before .before .before .before .before .before .before .loop-test .taken in
+    L .inv .6 ∙ refused (A .end) (A .words .now) (L .stack) (L .tree) (L .i) (L .at) (L .m) test he (R .result) (R .ensures) (c .if2 .taken)
 
 level-opened-requires : tie.Need-level-opened-requires Inv-loop μ-loop
 level-opened-requires c κs = search needs
@@ -76,14 +85,16 @@ same-length-6 : tie.Need-same-length-6 Inv-loop μ-loop
 same-length-6 c = search needs
 
 returns-3 : tie.Need-returns-3 Inv-loop μ-loop
+unfolding rule-for rule-list rule-starts
 returns-3 c =
-    let A = c .before .before .before .before .before .before .before .before .before .before .before .before .args in
-    let L = c .before .before .before .before .before .before .before .before .loop in
+    let A = c .before .before .before .before .before .before .before .before .before .before .before .before .before .before .args in
+    let L = c .before .before .before .before .before .before .before .before .before .before .loop in
     let R = c .before .before .before .rule-for in
     let O = c .before .level-opened in
     let he : L .at < length (L .stack) = omega arith in
+    let test = c .before .before .before .before .before .before .before .before .before .loop-test .taken in
     L .inv .6
-    ∙ too-deep (A .end) (A .words .now) (L .stack) (L .tree) (L .i) (L .at) (L .m) (c .before .before .before .before .before .before .before .loop-test .taken) he (R .result) (R .ensures)
+    ∙ too-deep (A .end) (A .words .now) (L .stack) (L .tree) (L .i) (L .at) (L .m) test he (R .result) (R .ensures)
     (c .before .before .if2 .left) (O .result) (O .ensures) (c .if3 .taken)
 
 add-replace-top : tie.Need-add-replace-top Inv-loop μ-loop
@@ -102,14 +113,15 @@ loop-less : tie.Need-loop-less Inv-loop μ-loop
 loop-less c = search needs
 
 loop-again : tie.Need-loop-again Inv-loop μ-loop
+unfolding rule-for rule-list rule-starts
 loop-again c =
-    let A = c .before .before .before .before .before .before .before .before .before .before .before .before .before .before .before .before .before .before .before .before .args in
-    let L = c .before .before .before .before .before .before .before .before .before .before .before .before .before .before .before .before .loop in
+    let A = c .before .before .before .before .before .before .before .before .before .before .before .before .before .before .before .before .before .before .before .before .before .before .args in
+    let L = c .before .before .before .before .before .before .before .before .before .before .before .before .before .before .before .before .before .before .loop in
     let R = c .before .before .before .before .before .before .before .before .before .before .before .rule-for in
     let O = c .before .before .before .before .before .before .before .before .before .level-opened in
     let W = c .before .before .write .ensures in
     let he : L .at < length (L .stack) = omega arith in
-    let test = c .before .before .before .before .before .before .before .before .before .before .before .before .before .before .before .loop-test .taken in
+    let test = c .before .before .before .before .before .before .before .before .before .before .before .before .before .before .before .before .before .loop-test .taken in
     let found = c .before .before .before .before .before .before .before .before .before .before .if2 .left in
     let within = c .before .before .before .before .before .before .before .before .if3 .left in (
       search needs,
@@ -162,6 +174,8 @@ parse-spec =
     returns
     mul-w
     slice-read-w
+    slice-aggregate-rule-for
+    slice-aggregate-rule-for-2
     rule-for-requires
     same-length-3
     same-length-4
