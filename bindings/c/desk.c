@@ -22,7 +22,7 @@ static const struct script scripts[] = {
     { "[CONST x int 0; SET x 42]", GREATEST, { MAHRULLIS_TYPE, 16, 0, 0, 0, 0 }, { 0 } },
     { "[VAR x int; ECHO x]", GREATEST, { MAHRULLIS_UNSET, 17, 3, 1, 1, 0 }, { 0 } },
     { "[ECHO (div 1 0)]", GREATEST, { MAHRULLIS_ZERO, 6, 4, 0, 0, 0 }, { 0 } },
-    { "[ECHO (div -7 2)]", GREATEST, { MAHRULLIS_DONE, 0, 4, 0, 0, 1 }, { -3 } },
+    { "[ECHO (div -7 2)]", GREATEST, { MAHRULLIS_DONE, 0, 4, 0, 0, 1 }, { -4 } },
     { "[]", GREATEST, { MAHRULLIS_SYNTAX, 1, 0, 0, 0, 0 }, { 0 } },
     { "[ECHO true]", GREATEST, { MAHRULLIS_TYPE, 1, 0, 0, 0, 0 }, { 0 } },
     { "[ECHO y]", GREATEST, { MAHRULLIS_TYPE, 6, 0, 0, 0, 0 }, { 0 } },

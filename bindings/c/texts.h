@@ -27,7 +27,7 @@ static const char *const whole_scripts[] = {
     "[\n  VAR sold int;\n  VAR returned int;\n  SET sold 0;\n  SET returned 0;\n  PROC sell [price:int, var sum:int] [SET sum (add sum price)];\n"
     "  PROC refund [price:int, days:int, var sum:int] [\n    IF (lt days 2) [SET sum (sub sum price)] [SET sum (sub sum (div (mul price 75) 100))]\n  ];\n"
     "  CALL sell 1290 (adr sold);\n  CALL sell 875 (adr sold);\n  CALL refund 1290 5 (adr returned);\n  CALL refund 875 1 (adr returned);\n  ECHO sold;\n"
-    "  ECHO returned;\n  ECHO (add sold returned);\n  ECHO (div returned 2)\n]\n",
+    "  ECHO returned;\n  ECHO (add sold returned);\n  ECHO (div returned 4)\n]\n",
     "[ECHO (add 1 2)]",
     "[ECHO 1]",
     "[CONST x int 0; SET x 42]",

@@ -1,4 +1,4 @@
--- Worked examples of document 01, by computation.
+-- Worked examples of document 01 and of request 4, by computation.
 use mathlib.Core.Path.{_≡_, refl}
 use mathlib.Core.Option.{some}
 use lib.IntN.{pos, negsuc}
@@ -16,8 +16,14 @@ mul-outside = refl
 div-outside : op2 div (negsuc 2147483647) (negsuc 0) ≡ some (fails RANGE)
 div-outside = refl
 
-div-toward-zero : op2 div (negsuc 6) (pos 2) ≡ some (amount (negsuc 2))
-div-toward-zero = refl
+div-down : op2 div (negsuc 6) (pos 2) ≡ some (amount (negsuc 3))
+div-down = refl
+
+div-down-negative : op2 div (pos 7) (negsuc 1) ≡ some (amount (negsuc 3))
+div-down-negative = refl
+
+div-like-signs : op2 div (negsuc 6) (negsuc 1) ≡ some (amount (pos 3))
+div-like-signs = refl
 
 div-by-zero : op2 div (pos 1) (pos 0) ≡ some (fails ZERO)
 div-by-zero = refl

@@ -4,9 +4,10 @@ use mathlib.Core.Bool.{Bool, true, false, not, Bool·beq}
 use mathlib.Core.Logic.{⊎-elim}
 use Prim.Native.Nat.{ℕ, zero, suc, _+_, _-_, _*_, _/_, _≤_, _<_}
 use native.Mathlib.Nat.{zero-mul, mul-zero, zero-div, div-lt-iff-lt-mul, le-div-iff-mul-le, eq-or-lt-of-le}
+use native.Mathlib.Numerals.{add-one}
 use native.Mathlib.Omega.{arith}
 use lib.Dec.{T}
-use lib.IntN.{ℤ, pos, negℤ, _+ℤ_, _*ℤ_, +ℤ-comm, negℤ-+ℤ, zero-*ℤ}
+use lib.IntN.{ℤ, pos, negsuc, negℤ, _+ℤ_, _*ℤ_, +ℤ-comm, negℤ-+ℤ, zero-*ℤ}
 use borrow.Author.Tests.{lt-ltb, le-ltb, lt-leb}
 use mir.Syntax.{w64}
 use mir.Val.{Fits}
@@ -103,14 +104,30 @@ product-fits x y h l =
     record { fits = omega arith }
 
 -- ---- quotients
-quotient-signed : (s t : Bool) (x y : ℕ) → 0 < y → quotient (signed s x) (signed t y) ≡ signed (unlike s t) (x / y)
-quotient-signed s t x zero h = absurd (omega arith)
-quotient-signed true true zero (suc y) h = sym (neg-zero (0 / suc y) (zero-div (suc y)))
-quotient-signed true true (suc x) (suc y) h = refl
-quotient-signed true false zero (suc y) h = neg-zero (0 / suc y) (zero-div (suc y))
-quotient-signed true false (suc x) (suc y) h = refl
-quotient-signed false true x (suc y) h = refl
-quotient-signed false false x (suc y) h = refl
+-- like signs: the quotient of the magnitudes
+quotient-like : (s t : Bool) (x y : ℕ) → unlike s t ≡ false → 0 < y → quotient (signed s x) (signed t y) ≡ pos (x / y)
+quotient-like s t x zero u h = absurd (omega arith)
+quotient-like true true zero (suc y) u h = refl
+quotient-like true true (suc x) (suc y) u h = refl
+quotient-like true false x (suc y) u h = absurd (subst T u tt)
+quotient-like false true x (suc y) u h = absurd (subst T u tt)
+quotient-like false false x (suc y) u h = refl
+
+-- unlike signs: down is away from 0
+quotient-unlike : (s t : Bool) (x y : ℕ) → unlike s t ≡ true → 0 < y → quotient (signed s (suc x)) (signed t y) ≡ negsuc (x / y)
+quotient-unlike s t x zero u h = absurd (omega arith)
+quotient-unlike true true x (suc y) u h = absurd (subst T (sym u) tt)
+quotient-unlike true false x (suc y) u h = refl
+quotient-unlike false true x (suc y) u h = refl
+quotient-unlike false false x (suc y) u h = absurd (subst T (sym u) tt)
+
+-- 0 by any other number
+quotient-none : (s t : Bool) (y : ℕ) → 0 < y → quotient (signed s 0) (signed t y) ≡ pos 0
+quotient-none s t zero h = absurd (omega arith)
+quotient-none true true (suc y) h = ap pos (zero-div (suc y))
+quotient-none true false (suc y) h = ap pos (zero-div (suc y))
+quotient-none false true (suc y) h = ap pos (zero-div (suc y))
+quotient-none false false (suc y) h = ap pos (zero-div (suc y))
 
 zero-is : (t : Bool) → same-number (signed t 0) (pos 0) ≡ true
 zero-is true = refl
@@ -124,7 +141,17 @@ zero-not false (suc y) h = simp (lt-leb (suc y) 0 h)
 pub divided-none : (a : ℤ) (t : Bool) (y : ℕ) → y ≡ 0 → fails ZERO ≡ divided a (signed t y)
 divided-none a t y e = rw e (simp (zero-is t))
 
-pub divided-some : (s t : Bool) (x y : ℕ) → (y ≡ 0 → ⊥) → ranged (signed (unlike s t) (x / y)) ≡ divided (signed s x) (signed t y)
-divided-some s t x y h =
-    let p : 0 < y = omega arith in
-    simp (zero-not t y p, quotient-signed s t x y p)
+module _ (s t : Bool) (x y : ℕ) (h : y ≡ 0 → ⊥) where
+  some : 0 < y
+  some = omega arith
+
+  pub divided-nothing : x ≡ 0 → ranged (pos 0) ≡ divided (signed s x) (signed t y)
+  divided-nothing e = rw e (simp (zero-not t y some, quotient-none s t y some))
+
+  pub divided-like : unlike s t ≡ false → ranged (pos (x / y)) ≡ divided (signed s x) (signed t y)
+  divided-like u = simp (zero-not t y some, quotient-like s t x y u some)
+
+  pub divided-unlike : (x ≡ 0 → ⊥) → unlike s t ≡ true → ranged (negℤ (pos ((x - 1) / y + 1))) ≡ divided (signed s x) (signed t y)
+  divided-unlike g u =
+      let e : x ≡ suc (x - 1) = omega arith in
+      rw (add-one, ap (λ n. quotient (signed s n) (signed t y)) e ∙ quotient-unlike s t (x - 1) y u some, zero-not t y some) refl

@@ -2,3 +2,4 @@ pub mod Sound
 pub mod Stable
 pub mod Counts
 pub mod Rounds
+pub mod Quotients

@@ -47,7 +47,7 @@ scripts =
     case "[FUN REC f int [n:int] (if (lt n 1) 0 (add n (f (sub n 1)))); ECHO (f 3)]" (limited 100 9 9 0 1) (ends (stopped (limit DEPTH) 53) 26 5 0 []) ∷
     case "[VAR x int; SET x 0; WHILE (lt x 3) [ECHO x; SET x (add x 1)]]" (limited 100 20 4 4 4) (ends done 37 1 1 (pos 0 ∷ pos 1 ∷ pos 2 ∷ [])) ∷
     case "[CONST x int 1; FUN f int [y:int] x; CONST x int 2; ECHO (f 0)]" (limited 100 20 4 0 1) (ends done 10 4 0 (pos 1 ∷ [])) ∷
-    case "[VAR x bool; ECHO (if (and false x) 1 (div -7 2))]" (limited 100 20 4 1 1) (ends done 8 1 1 (negsuc 2 ∷ [])) ∷
+    case "[VAR x bool; ECHO (if (and false x) 1 (div -7 2))]" (limited 100 20 4 1 1) (ends done 8 1 1 (negsuc 3 ∷ [])) ∷
     []
 
 scripts-shown : AllShown scripts

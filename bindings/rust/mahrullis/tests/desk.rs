@@ -45,7 +45,7 @@ fn scripts_of_the_desk() {
     expect(gate, b"[CONST x int 0; SET x 42]", MOST, refused(Code::Type, 16));
     expect(gate, b"[VAR x int; ECHO x]", MOST, stopped(Stop::Unset, 17, 3, 1, 1));
     expect(gate, b"[ECHO (div 1 0)]", MOST, stopped(Stop::Zero, 6, 4, 0, 0));
-    expect(gate, b"[ECHO (div -7 2)]", MOST, done(4, 0, 0, &[-3]));
+    expect(gate, b"[ECHO (div -7 2)]", MOST, done(4, 0, 0, &[-4]));
     expect(gate, b"[]", MOST, refused(Code::Syntax, 1));
     expect(gate, b"[ECHO true]", MOST, refused(Code::Type, 1));
     expect(gate, b"[ECHO y]", MOST, refused(Code::Type, 6));

@@ -1,7 +1,7 @@
 -- Worked examples: the rest of the desk's scripts, the errors seen in other gateways, and the order of judging, from their texts, by computation.
 use mathlib.Core.Path.{refl}
 use mathlib.Core.List.{List, [], _∷_}
-use lib.IntN.{pos}
+use lib.IntN.{pos, negsuc}
 use Rattle.language.specs.Answers.{TYPE, FUEL, DEPTH, CELLS, BINDINGS, OUTPUT, RANGE, UNSET, limit, error, done, stopped}
 use Rattle.language.specs.Names.{meaning}
 use Rattle.language.specs.Words.{wordsFrom}
@@ -31,6 +31,9 @@ worked =
     (ends (stopped (error RANGE) 6) 4 0 0 []) ∷
     case "[ECHO (div -2147483648 -1)]" greatest-limits
     (ends (stopped (error RANGE) 6) 4 0 0 []) ∷
+    -- ---- div rounds down
+    case "[ECHO (div 7 2); ECHO (div -7 -2); ECHO (div 7 -2); ECHO (div -8 2); ECHO (div 8 -2); ECHO (div -1 3); ECHO (div 1 -3); ECHO (div 0 -3)]" greatest-limits
+    (ends done 32 0 0 (pos 3 ∷ pos 3 ∷ negsuc 3 ∷ negsuc 3 ∷ negsuc 3 ∷ negsuc 0 ∷ negsuc 0 ∷ pos 0 ∷ [])) ∷
     case "[VAR x int; SET x 0; WHILE (lt x 3) [ECHO x; SET x (add x 1)]]" (limited 100000 200 4096 4096 4096)
     (ends done 37 1 1 (pos 0 ∷ pos 1 ∷ pos 2 ∷ [])) ∷
     -- ---- a body has the names of its definition, not its caller's
@@ -113,7 +116,7 @@ worked =
 worked-computed : AllComputed worked
 unfolding outcome verdict judged-text judged-tree read wordsFrom parse add-leaf add-fork link set-sib retype descent past deep level bind need within branch give give-cell meaning andThen judged only passes same-type judge-params judge-expr judge-arg judge-args judge-cmds
 worked-computed =
-    (refl, (refl, (refl, (refl, (refl, (refl, (refl, (refl, (refl, (refl, (refl, (refl, (refl, (refl, (refl, (refl, (refl, (refl, (refl, (refl, (refl, (refl, (refl, (refl, (refl, (refl, (refl, (refl, (refl, (refl, (refl, (refl, (refl, (refl, (refl, (refl, (refl, (refl, (refl, (refl, tt))))))))))))))))))))))))))))))))))))))))
+    (refl, (refl, (refl, (refl, (refl, (refl, (refl, (refl, (refl, (refl, (refl, (refl, (refl, (refl, (refl, (refl, (refl, (refl, (refl, (refl, (refl, (refl, (refl, (refl, (refl, (refl, (refl, (refl, (refl, (refl, (refl, (refl, (refl, (refl, (refl, (refl, (refl, (refl, (refl, (refl, (refl, tt)))))))))))))))))))))))))))))))))))))))))
 
 pub worked-hold : AllHold worked
 worked-hold = computed-holds worked worked-computed
