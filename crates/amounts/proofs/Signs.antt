@@ -40,43 +40,6 @@ neg-zero (suc n) e = absurd (omega arith)
 pub both : {A : Type 0} (op : ℤ → ℤ → A) {a b x y : ℤ} → a ≡ x → b ≡ y → op x y ≡ op a b
 both op {a} {b} {x} {y} p q = rw (p, q) refl
 
--- ---- sums
-minus-less : (x y : ℕ) → y ≤ x → pos x +ℤ negℤ (pos y) ≡ pos (x - y)
-minus-less x zero h = ap pos (omega arith)
-minus-less x (suc y) h = simp (le-ltb x (suc y) h)
-
-minus-more : (x y : ℕ) → x ≤ y → pos x +ℤ negℤ (pos y) ≡ negℤ (pos (y - x))
-minus-more x y h = ⊎-elim (same x y) (other x y) (eq-or-lt-of-le h)
-  where
-    same : (x y : ℕ) → x ≡ y → pos x +ℤ negℤ (pos y) ≡ negℤ (pos (y - x))
-    same x y e =
-        let d : x - y ≡ y - x = omega arith in
-        minus-less x y (omega arith) ∙ neg-zero (x - y) (omega arith) ∙ ap (λ (n : ℕ). negℤ (pos n)) d
-
-    other : (x y : ℕ) → x < y → pos x +ℤ negℤ (pos y) ≡ negℤ (pos (y - x))
-    other x zero h = absurd (omega arith)
-    other x (suc y) h =
-        let e : suc y - x ≡ suc (suc y - suc x) = omega arith in
-        simp (lt-ltb x (suc y) h) (rw e refl)
-
-pub sum-like : (s t : Bool) (x y : ℕ) → unlike s t ≡ false → signed s x +ℤ signed t y ≡ signed s (x + y)
-sum-like true true x y h = sym (negℤ-+ℤ (pos x) (pos y))
-sum-like true false x y h = absurd (subst T h tt)
-sum-like false true x y h = absurd (subst T h tt)
-sum-like false false x y h = refl
-
-pub sum-more : (s t : Bool) (x y : ℕ) → unlike s t ≡ true → y ≤ x → signed s x +ℤ signed t y ≡ signed s (x - y)
-sum-more true true x y h l = absurd (subst T (sym h) tt)
-sum-more true false x y h l = +ℤ-comm (negℤ (pos x)) (pos y) ∙ minus-more y x l
-sum-more false true x y h l = minus-less x y l
-sum-more false false x y h l = absurd (subst T (sym h) tt)
-
-pub sum-less : (s t : Bool) (x y : ℕ) → unlike s t ≡ true → x ≤ y → signed s x +ℤ signed t y ≡ signed t (y - x)
-sum-less true true x y h l = absurd (subst T (sym h) tt)
-sum-less true false x y h l = +ℤ-comm (negℤ (pos x)) (pos y) ∙ minus-less y x l
-sum-less false true x y h l = minus-more x y l
-sum-less false false x y h l = absurd (subst T (sym h) tt)
-
 -- ---- products
 pub product : (s t : Bool) (x y : ℕ) → signed s x *ℤ signed t y ≡ signed (unlike s t) (x * y)
 product true true zero y = zero-*ℤ (negℤ (pos y)) ∙ ap pos (sym (zero-mul y))
