@@ -53,7 +53,7 @@ enum mahrullis_answer {
     MAHRULLIS_LIMIT = 2,     /* a limit is over its greatest value; place 0 */
     MAHRULLIS_TABLE = 3,     /* a table is too short; place 0 */
     MAHRULLIS_BYTE = 4,      /* a byte that is in no word and separates none, at it */
-    MAHRULLIS_NUMBER = 5,    /* a number outside -2,147,483,648 to 2,147,483,647, at its start */
+    MAHRULLIS_NUMBER = 5,    /* a number outside the range of int64_t, at its start */
     MAHRULLIS_TOKENS = 6,    /* over 4,096 words, at the 4,097th */
     MAHRULLIS_SYNTAX = 7,    /* the words so far begin no program, at the first such word or at the text's end */
     MAHRULLIS_LEVEL = 8,     /* a 65th level opens, at that word */
@@ -64,7 +64,7 @@ enum mahrullis_answer {
     MAHRULLIS_CELLS = 22,    /* no cell is left, at the VAR */
     MAHRULLIS_BINDINGS = 23, /* fewer bindings are left than are made, at the definition, CALL or application */
     MAHRULLIS_OUTPUT = 24,   /* as many numbers are out as may be, at the ECHO */
-    MAHRULLIS_RANGE = 25,    /* a result is outside the range of numbers, at the application */
+    MAHRULLIS_RANGE = 25,    /* a result is outside the range of int64_t, at the application */
     MAHRULLIS_ZERO = 26,     /* div by 0, at the application */
     MAHRULLIS_UNSET = 27     /* a cell is read before it is set, at the name */
 };

@@ -217,7 +217,6 @@ static void expect_zeros(int i) { memset(image(i), 0, tables[i].needed * sizeof(
 static void expect_numbers(void) {
     const int64_t *output = (const int64_t *)entries(OUTPUT);
     uint64_t numbers = entries(REPORT)[5];
-    for (uint64_t i = 0; i < numbers; i++) hold(output[i] >= -2147483648LL && output[i] <= 2147483647LL, "a number is in range");
     memcpy(image(OUTPUT), output, (size_t)numbers * sizeof output[0]);
 }
 

@@ -27,7 +27,7 @@ static const char *const whole_scripts[] = {
     "[\n  VAR sold int;\n  VAR returned int;\n  SET sold 0;\n  SET returned 0;\n  PROC sell [price:int, var sum:int] [SET sum (add sum price)];\n"
     "  PROC refund [price:int, days:int, var sum:int] [\n    IF (lt days 2) [SET sum (sub sum price)] [SET sum (sub sum (div (mul price 75) 100))]\n  ];\n"
     "  CALL sell 1290 (adr sold);\n  CALL sell 875 (adr sold);\n  CALL refund 1290 5 (adr returned);\n  CALL refund 875 1 (adr returned);\n  ECHO sold;\n"
-    "  ECHO returned;\n  ECHO (add sold returned);\n  ECHO (div returned 2)\n]\n",
+    "  ECHO returned;\n  ECHO (add sold returned);\n  ECHO (div returned 4)\n]\n",
     "[ECHO (add 1 2)]",
     "[ECHO 1]",
     "[CONST x int 0; SET x 42]",
@@ -41,10 +41,10 @@ static const char *const whole_scripts[] = {
     "[PROC p [var x:int] [SET x (add x 1)]; VAR v int; SET v 41; CALL p (adr v); ECHO v]",
     "[PROC p [var x:int] [SET x (add x 1)]; VAR v int; SET v 41; CALL p v; ECHO v]",
     "[FUN REC f int [n:int] (if (lt n 1) 0 (add n (f (sub n 1)))); ECHO (f 3)]",
-    "[ECHO (mul 65535 32768)]",
-    "[ECHO (mul 65536 32768)]",
-    "[ECHO (div -2147483648 -1)]",
-    "[ECHO 2147483648]",
+    "[ECHO (mul 4294967295 2147483648)]",
+    "[ECHO (mul 4294967296 2147483648)]",
+    "[ECHO (div -9223372036854775808 -1)]",
+    "[ECHO 9223372036854775808]",
     "[VAR x int; SET x 0; WHILE (lt x 3) [ECHO x; SET x (add x 1)]]",
     "[VAR x int; SET x 0; WHILE true [SET x (sub 1 x)]]",
     "[VAR x int; SET x 0; WHILE true [ECHO x; SET x (add x 1)]]",
@@ -64,8 +64,8 @@ static const char *const whole_scripts[] = {
 
 static const char *const words[] = {
     "[", "]", "(", ")", ";", ":", ",", "*", "->", "CONST", "FUN", "REC", "VAR", "PROC", "ECHO", "SET", "IF", "WHILE", "CALL", "if", "and", "or", "bool", "int",
-    "var", "adr", "true", "false", "not", "eq", "lt", "add", "sub", "mul", "div", "x", "y", "f", "n", "p", "0", "1", "-1", "42", "2147483647", "-2147483648",
-    "2147483648", "fare2", "ECHO 1;", "[ECHO x]", "(add x 1)", "[n:int]", "(int -> int)",
+    "var", "adr", "true", "false", "not", "eq", "lt", "add", "sub", "mul", "div", "x", "y", "f", "n", "p", "0", "1", "-1", "42", "9223372036854775807", "-9223372036854775808",
+    "9223372036854775808", "fare2", "ECHO 1;", "[ECHO x]", "(add x 1)", "[n:int]", "(int -> int)",
 };
 
 /* In this order they hold; where one is left out, what needs it is a TYPE. */
@@ -77,7 +77,7 @@ static const char *const definitions[] = {
 
 static const char *const statements[] = {
     "SET x 3", "SET x (add x 1)", "ECHO x", "ECHO (f x)", "ECHO (g 5)", "CALL p (adr x) 4", "CALL q 3", "ECHO (h f 2)", "ECHO (h [n:int] (mul n n) 300)",
-    "WHILE (lt x 20) [SET x (add x 5)]", "IF b [ECHO 1] [ECHO 2]", "SET b (eq x 3)", "ECHO (div k (sub x 3))", "ECHO (mul 65536 (mul k 9999))", "ECHO (g 300)",
+    "WHILE (lt x 20) [SET x (add x 5)]", "IF b [ECHO 1] [ECHO 2]", "SET b (eq x 3)", "ECHO (div k (sub x 3))", "ECHO (mul 281474976710656 (mul k 9999))", "ECHO (g 300)",
     "WHILE true [SET x 1]", "CALL q 30", "ECHO (w 1 x k (g 2))", "IF (or b (lt x 2)) [VAR y int; ECHO y] [ECHO (sub 0 x)]", "ECHO ([a:int, b:int] (mul a b) x k)",
 };
 

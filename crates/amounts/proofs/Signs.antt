@@ -4,9 +4,10 @@ use mathlib.Core.Bool.{Bool, true, false, not, Bool·beq}
 use mathlib.Core.Logic.{⊎-elim}
 use Prim.Native.Nat.{ℕ, zero, suc, _+_, _-_, _*_, _/_, _≤_, _<_}
 use native.Mathlib.Nat.{zero-mul, mul-zero, zero-div, div-lt-iff-lt-mul, le-div-iff-mul-le, eq-or-lt-of-le}
+use native.Mathlib.Numerals.{add-one}
 use native.Mathlib.Omega.{arith}
 use lib.Dec.{T}
-use lib.IntN.{ℤ, pos, negℤ, _+ℤ_, _*ℤ_, +ℤ-comm, negℤ-+ℤ, zero-*ℤ}
+use lib.IntN.{ℤ, pos, negsuc, negℤ, _+ℤ_, _*ℤ_, +ℤ-comm, negℤ-+ℤ, zero-*ℤ}
 use borrow.Author.Tests.{lt-ltb, le-ltb, lt-leb}
 use mir.Syntax.{w64}
 use mir.Val.{Fits}
@@ -39,43 +40,6 @@ neg-zero (suc n) e = absurd (omega arith)
 pub both : {A : Type 0} (op : ℤ → ℤ → A) {a b x y : ℤ} → a ≡ x → b ≡ y → op x y ≡ op a b
 both op {a} {b} {x} {y} p q = rw (p, q) refl
 
--- ---- sums
-minus-less : (x y : ℕ) → y ≤ x → pos x +ℤ negℤ (pos y) ≡ pos (x - y)
-minus-less x zero h = ap pos (omega arith)
-minus-less x (suc y) h = simp (le-ltb x (suc y) h)
-
-minus-more : (x y : ℕ) → x ≤ y → pos x +ℤ negℤ (pos y) ≡ negℤ (pos (y - x))
-minus-more x y h = ⊎-elim (same x y) (other x y) (eq-or-lt-of-le h)
-  where
-    same : (x y : ℕ) → x ≡ y → pos x +ℤ negℤ (pos y) ≡ negℤ (pos (y - x))
-    same x y e =
-        let d : x - y ≡ y - x = omega arith in
-        minus-less x y (omega arith) ∙ neg-zero (x - y) (omega arith) ∙ ap (λ (n : ℕ). negℤ (pos n)) d
-
-    other : (x y : ℕ) → x < y → pos x +ℤ negℤ (pos y) ≡ negℤ (pos (y - x))
-    other x zero h = absurd (omega arith)
-    other x (suc y) h =
-        let e : suc y - x ≡ suc (suc y - suc x) = omega arith in
-        simp (lt-ltb x (suc y) h) (rw e refl)
-
-pub sum-like : (s t : Bool) (x y : ℕ) → unlike s t ≡ false → signed s x +ℤ signed t y ≡ signed s (x + y)
-sum-like true true x y h = sym (negℤ-+ℤ (pos x) (pos y))
-sum-like true false x y h = absurd (subst T h tt)
-sum-like false true x y h = absurd (subst T h tt)
-sum-like false false x y h = refl
-
-pub sum-more : (s t : Bool) (x y : ℕ) → unlike s t ≡ true → y ≤ x → signed s x +ℤ signed t y ≡ signed s (x - y)
-sum-more true true x y h l = absurd (subst T (sym h) tt)
-sum-more true false x y h l = +ℤ-comm (negℤ (pos x)) (pos y) ∙ minus-more y x l
-sum-more false true x y h l = minus-less x y l
-sum-more false false x y h l = absurd (subst T (sym h) tt)
-
-pub sum-less : (s t : Bool) (x y : ℕ) → unlike s t ≡ true → x ≤ y → signed s x +ℤ signed t y ≡ signed t (y - x)
-sum-less true true x y h l = absurd (subst T (sym h) tt)
-sum-less true false x y h l = +ℤ-comm (negℤ (pos x)) (pos y) ∙ minus-less y x l
-sum-less false true x y h l = minus-more x y l
-sum-less false false x y h l = absurd (subst T (sym h) tt)
-
 -- ---- products
 pub product : (s t : Bool) (x y : ℕ) → signed s x *ℤ signed t y ≡ signed (unlike s t) (x * y)
 product true true zero y = zero-*ℤ (negℤ (pos y)) ∙ ap pos (sym (zero-mul y))
@@ -103,14 +67,30 @@ product-fits x y h l =
     record { fits = omega arith }
 
 -- ---- quotients
-quotient-signed : (s t : Bool) (x y : ℕ) → 0 < y → quotient (signed s x) (signed t y) ≡ signed (unlike s t) (x / y)
-quotient-signed s t x zero h = absurd (omega arith)
-quotient-signed true true zero (suc y) h = sym (neg-zero (0 / suc y) (zero-div (suc y)))
-quotient-signed true true (suc x) (suc y) h = refl
-quotient-signed true false zero (suc y) h = neg-zero (0 / suc y) (zero-div (suc y))
-quotient-signed true false (suc x) (suc y) h = refl
-quotient-signed false true x (suc y) h = refl
-quotient-signed false false x (suc y) h = refl
+-- like signs: the quotient of the magnitudes
+quotient-like : (s t : Bool) (x y : ℕ) → unlike s t ≡ false → 0 < y → quotient (signed s x) (signed t y) ≡ pos (x / y)
+quotient-like s t x zero u h = absurd (omega arith)
+quotient-like true true zero (suc y) u h = refl
+quotient-like true true (suc x) (suc y) u h = refl
+quotient-like true false x (suc y) u h = absurd (subst T u tt)
+quotient-like false true x (suc y) u h = absurd (subst T u tt)
+quotient-like false false x (suc y) u h = refl
+
+-- unlike signs: down is away from 0
+quotient-unlike : (s t : Bool) (x y : ℕ) → unlike s t ≡ true → 0 < y → quotient (signed s (suc x)) (signed t y) ≡ negsuc (x / y)
+quotient-unlike s t x zero u h = absurd (omega arith)
+quotient-unlike true true x (suc y) u h = absurd (subst T (sym u) tt)
+quotient-unlike true false x (suc y) u h = refl
+quotient-unlike false true x (suc y) u h = refl
+quotient-unlike false false x (suc y) u h = absurd (subst T (sym u) tt)
+
+-- 0 by any other number
+quotient-none : (s t : Bool) (y : ℕ) → 0 < y → quotient (signed s 0) (signed t y) ≡ pos 0
+quotient-none s t zero h = absurd (omega arith)
+quotient-none true true (suc y) h = ap pos (zero-div (suc y))
+quotient-none true false (suc y) h = ap pos (zero-div (suc y))
+quotient-none false true (suc y) h = ap pos (zero-div (suc y))
+quotient-none false false (suc y) h = ap pos (zero-div (suc y))
 
 zero-is : (t : Bool) → same-number (signed t 0) (pos 0) ≡ true
 zero-is true = refl
@@ -124,7 +104,17 @@ zero-not false (suc y) h = simp (lt-leb (suc y) 0 h)
 pub divided-none : (a : ℤ) (t : Bool) (y : ℕ) → y ≡ 0 → fails ZERO ≡ divided a (signed t y)
 divided-none a t y e = rw e (simp (zero-is t))
 
-pub divided-some : (s t : Bool) (x y : ℕ) → (y ≡ 0 → ⊥) → ranged (signed (unlike s t) (x / y)) ≡ divided (signed s x) (signed t y)
-divided-some s t x y h =
-    let p : 0 < y = omega arith in
-    simp (zero-not t y p, quotient-signed s t x y p)
+module _ (s t : Bool) (x y : ℕ) (h : y ≡ 0 → ⊥) where
+  some : 0 < y
+  some = omega arith
+
+  pub divided-nothing : x ≡ 0 → ranged (pos 0) ≡ divided (signed s x) (signed t y)
+  divided-nothing e = rw e (simp (zero-not t y some, quotient-none s t y some))
+
+  pub divided-like : unlike s t ≡ false → ranged (pos (x / y)) ≡ divided (signed s x) (signed t y)
+  divided-like u = simp (zero-not t y some, quotient-like s t x y u some)
+
+  pub divided-unlike : (x ≡ 0 → ⊥) → unlike s t ≡ true → ranged (negℤ (pos ((x - 1) / y + 1))) ≡ divided (signed s x) (signed t y)
+  divided-unlike g u =
+      let e : x ≡ suc (x - 1) = omega arith in
+      rw (add-one, ap (λ n. quotient (signed s n) (signed t y)) e ∙ quotient-unlike s t (x - 1) y u some, zero-not t y some) refl

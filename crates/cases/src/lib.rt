@@ -2,7 +2,7 @@
 //
 // A case is a line of 128 bytes: 13 numbers in columns of 8, then a name. The numbers: 1 where a script follows and 0 where the last one is run again;
 // the script's length; the limits on fuel, depth, bindings, cells and output; then what is expected: the answer's number and place, the units, bindings
-// and cells taken, and how many numbers are put out. Then come the script with a line end, and a line of 12 bytes for each number.
+// and cells taken, and how many numbers are put out. Then come the script with a line end, and a line of 24 bytes for each number.
 use amounts::Amount;
 use answers::Report;
 use numerals::Read;
@@ -65,7 +65,7 @@ fn as_expected(line: &[u8], report: Report) -> bool {
 
 // The next line's number, which is expected.
 fn next_number() -> i64 {
-    let mut line = [0u8; 12];
+    let mut line = [0u8; 24];
     io::read_full(0, &mut line);
     number_at(&line, 0)
 }

@@ -55,7 +55,9 @@ fn say_byte() {
 }
 
 fn say_number() {
-    lines::text(b"this number is outside the range: write one from -2147483648 to 2147483647");
+    lines::text(
+        b"this number is outside the range: write one from -9223372036854775808 to 9223372036854775807",
+    );
 }
 
 fn say_tokens() {
@@ -324,7 +326,7 @@ fn say_output(output: u64) {
 
 fn say_range() {
     lines::text(
-        b"the result is outside the range from -2147483648 to 2147483647: compute with smaller numbers",
+        b"the result is outside the range from -9223372036854775808 to 9223372036854775807: compute with smaller numbers",
     );
 }
 

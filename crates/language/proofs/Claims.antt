@@ -16,7 +16,7 @@ use Rattle.language.specs.Typing.{Typable}
 use Rattle.language.specs.Rules.{stop, no-rule, Outcome, ok, halt, bind, need, within, level, run}
 use Rattle.language.specs.Outcome.{end-of}
 use Rattle.language.specs.Promises.{Verdict, typed}
-use Rattle.language.specs.Claims.{AcceptedExactly, OneVerdict, OneTree, OneLevels, TreeFits, InTextOrder, TypedOrRefused, UniqueTypes, Levels128, NoRule, NeverStuck, EndsByTheTable, SameUnderLargerLimits, NumbersBegin, CountsInLimits, LimitIsUsedUp, WhileRule, NoRuleIsReached, OneCheck, OneRun, DeskHolds, NothingGivenBack, CheckCarriesNothingOver, RunCarriesNothingOver}
+use Rattle.language.specs.Claims.{AcceptedExactly, OneVerdict, OneTree, OneLevels, TreeFits, InTextOrder, TypedOrRefused, UniqueTypes, Levels128, NoRule, NeverStuck, EndsByTheTable, SameUnderLargerLimits, NumbersBegin, CountsInLimits, LimitIsUsedUp, WhileRule, NoRuleIsReached, OneCheck, OneRun, DeskHolds, NothingGivenBack, CheckCarriesNothingOver, RunCarriesNothingOver, RoundsDown}
 use Rattle.language.proofs.reading.Shown.{one-tree, levels-once, room, in-text-order}
 use Rattle.language.proofs.typing.Unique.{unique-types}
 use Rattle.language.proofs.typing.Judged.{one-verdict}
@@ -27,6 +27,7 @@ use Rattle.language.proofs.running.Stable.{same-under-larger-limits, nu
 use Rattle.language.proofs.running.Counts.{counts-in-limits, limit-is-used-up}
 use Rattle.language.proofs.running.Rounds.{while-rule}
 use Rattle.language.proofs.running.Kept.{nothing-given-back}
+use Rattle.language.proofs.running.Quotients.{rounds-down}
 use Rattle.language.proofs.texts.Verdicts.{verdict, verdict-right, only-verdict}
 use Rattle.language.proofs.texts.Promised.{one-check, one-run}
 use Rattle.language.proofs.texts.Afresh.{check-carries-nothing-over, run-carries-nothing-over}
@@ -96,6 +97,9 @@ limit-is-used-up-claim = limit-is-used-up
 
 pub while-rule-claim : WhileRule
 while-rule-claim = while-rule
+
+pub rounds-down-claim : RoundsDown
+rounds-down-claim = rounds-down
 
 pub no-rule-is-reached : NoRuleIsReached
 unfolding level bind need within meaning

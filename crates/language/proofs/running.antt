@@ -4,3 +4,4 @@ pub mod Stable
 pub mod Counts
 pub mod Rounds
 pub mod Kept
+pub mod Quotients

@@ -1,9 +1,10 @@
 -- What is claimed of the language, each claim as a type with a sentence; proofs/Claims.antt proves each.
-use Rattle.language.specs.Library.{_≡_, _↔_, _⊎_, ℕ, zero, suc, _≤_, ℤ, true, List, [], _∷_, _++_, map, length, some}
+use Rattle.language.specs.Library.{_≡_, _↔_, _⊎_, ℕ, zero, suc, _≤_, ℤ, true, List, [], _∷_, _++_, map, length, some, _<_, pos, natAbs, _+ℤ_, _*ℤ_, nonNeg}
 use lib.ListN.{take}
 use Rattle.language.specs.Syntax.{at, Expr, name, ExprP, last, Def, Stat, echo, while, Block, block}
 use Rattle.language.specs.Bytes.{bytesOf}
 use Rattle.language.specs.Answers.{Refusal, FUEL, DEPTH, CELLS, BINDINGS, OUTPUT, Stop, limit, error, done, stopped, Result, fine}
+use Rattle.language.specs.Numbers.{quotient}
 use Rattle.language.specs.Words.{Word, wordsOf, most}
 use Rattle.language.specs.Grammar.{BLOCK, Reads}
 use Rattle.language.specs.Table.{none, shapeBlock, Node, node, enc, table}
@@ -160,6 +161,11 @@ WhileRule = (L : Limits) (d p : ℕ) (e : Expr) (b : Block) (ρ : Env) (s : Stat
     level L (suc d) .stat (while p e b) ρ s ≡
     enter L p s (λ s₁. bind (level L d .expr e ρ s₁) λ v s₂. need (as-truth v) p s₂ λ t.
     branch t (bind (in-block (level L d) b ρ s₂) λ u s₃. level L (suc d) .stat (while p e b) ρ s₃) (ok tt s₂))
+
+-- div rounds down: the dividend is quotient times divisor plus a rest, which is 0 or has the divisor's sign, and whose size is below the divisor's.
+abbrev pub RoundsDown : Type 0
+RoundsDown = (a b : ℤ) → ¬ (b ≡ pos 0) →
+    (rest : ℤ) × (a ≡ (quotient a b *ℤ b) +ℤ rest) × ((rest ≡ pos 0) ⊎ (nonNeg rest ≡ nonNeg b)) × (natAbs rest < natAbs b)
 
 -- Some tree does reach a state that no rule fits, so that NeverStuck says something: [ECHO y].
 abbrev pub NoRuleIsReached : Type 0

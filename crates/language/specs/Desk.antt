@@ -38,7 +38,7 @@ desk =
     case "[CONST x int 0; SET x 42]" greatest-limits (refusal-report TYPE 16) ∷
     case "[VAR x int; ECHO x]" greatest-limits (ends (stopped (error UNSET) 17) 3 1 1 []) ∷
     case "[ECHO (div 1 0)]" greatest-limits (ends (stopped (error ZERO) 6) 4 0 0 []) ∷
-    case "[ECHO (div -7 2)]" greatest-limits (ends done 4 0 0 (negsuc 2 ∷ [])) ∷
+    case "[ECHO (div -7 2)]" greatest-limits (ends done 4 0 0 (negsuc 3 ∷ [])) ∷
     case "[]" greatest-limits (refusal-report SYNTAX 1) ∷
     case "[ECHO true]" greatest-limits (refusal-report TYPE 1) ∷
     case "[ECHO y]" greatest-limits (refusal-report TYPE 6) ∷

@@ -1,19 +1,23 @@
 -- Numbers: their range, and what the operators compute (000's π₁ and π₂).
-use Rattle.language.specs.Library.{zero, suc, ℤ, pos, negsuc, _+ℤ_, _-ℤ_, _*ℤ_, ltZ, leZ, quotZ, Bool, true, false, cond, List, [], _∷_, Option, none, some}
+use Rattle.language.specs.Library.{ℕ, zero, suc, ℤ, pos, negsuc, negℤ, _+ℤ_, _-ℤ_, _*ℤ_, ltZ, leZ, shrZ, Bool, true, false, cond, List, [], _∷_, Option, none, some}
 use Rattle.language.specs.Answers.{ErrorStop, RANGE, ZERO}
 use Rattle.language.specs.Names.{Op, not, eq, lt, add, sub, mul, div}
 
+abbrev pub top : ℕ  -- the range, said once: that of signed 64-bit numbers (request 6), from -(top + 1) to top
+top = 9223372036854775807
+
 abbrev pub least : ℤ  -- the least number
-least = negsuc 2147483647
+least = negsuc top
 
 abbrev pub greatest : ℤ  -- the greatest number
-greatest = pos 2147483647
+greatest = pos top
 
 abbrev pub in-range : ℤ → Bool
 in-range z = cond (leZ least z) (leZ z greatest) false
 
-abbrev pub quotient : ℤ → ℤ → ℤ  -- div rounds toward zero
-quotient a b = quotZ a b
+abbrev pub quotient : ℤ → ℤ → ℤ  -- div rounds down (request 4), as the library's shrZ does: a by -b is -a by b
+quotient a (pos b) = shrZ a b
+quotient a (negsuc b) = shrZ (negℤ a) (suc b)
 
 pub data Computed : Type 0 where  -- a number, or why there is none
   amount : ℤ → Computed

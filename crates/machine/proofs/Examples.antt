@@ -7,7 +7,7 @@ use lib.IntN.{pos, negsuc}
 use lib.ListN.{replicate}
 use Rattle.language.specs.Bytes.{bytesOf}
 use Rattle.language.specs.Syntax.{Block}
-use Rattle.language.specs.Answers.{DEPTH, BINDINGS, limit, done, stopped, Result, fine, refuse}
+use Rattle.language.specs.Answers.{DEPTH, BINDINGS, RANGE, limit, error, done, stopped, Result, fine, refuse}
 use Rattle.language.specs.Names.{meaning}
 use Rattle.language.specs.Limits.{Limits}
 use Rattle.language.specs.Outcome.{Report}
@@ -47,9 +47,11 @@ scripts =
     case "[FUN REC f int [n:int] (if (lt n 1) 0 (add n (f (sub n 1)))); ECHO (f 3)]" (limited 100 9 9 0 1) (ends (stopped (limit DEPTH) 53) 26 5 0 []) ∷
     case "[VAR x int; SET x 0; WHILE (lt x 3) [ECHO x; SET x (add x 1)]]" (limited 100 20 4 4 4) (ends done 37 1 1 (pos 0 ∷ pos 1 ∷ pos 2 ∷ [])) ∷
     case "[CONST x int 1; FUN f int [y:int] x; CONST x int 2; ECHO (f 0)]" (limited 100 20 4 0 1) (ends done 10 4 0 (pos 1 ∷ [])) ∷
-    case "[VAR x bool; ECHO (if (and false x) 1 (div -7 2))]" (limited 100 20 4 1 1) (ends done 8 1 1 (negsuc 2 ∷ [])) ∷
+    case "[VAR x bool; ECHO (if (and false x) 1 (div -7 2))]" (limited 100 20 4 1 1) (ends done 8 1 1 (negsuc 3 ∷ [])) ∷
+    case "[ECHO (mul 3037000499 3037000499); ECHO (sub -9223372036854775807 1); ECHO (div (sub -9223372036854775807 1) -1)]" (limited 100 20 4 1 4)
+    (ends (stopped (error RANGE) 75) 14 0 0 (pos 9223372030926249001 ∷ negsuc 9223372036854775807 ∷ [])) ∷
     []
 
 scripts-shown : AllShown scripts
 unfolding read wordsFrom parse add-leaf add-fork link set-sib retype descent past deep table enc size first shapeType shapeTypes shapeArg shapeArgs shapeArgP shapeArgsP shapeExpr shapeExprs shapeExprP shapeExprsP shapeCmds shapeDef shapeStat shapeBlock meaning nodeAt numberAt pick rowAfter rowAt putRow bindingAt putBinding closureWord nodeOf envOf andThen guard meaningAt sameName walk boundTo addressOf readThrough nameBy nameValue numeralAt computedBy negated combined isParam bodyAfter bindAll enter enterAgain openFunction openProcedure define defineCell onBit args allArgs ifE andE orE operatorE callE operatorAt applyE exprBy constC echoC setC blockC ifC callC round rounds cmdBy cmdIn cmds step bottom evaluators blockAt program
-scripts-shown = (refl, (refl, (refl, (refl, (refl, (refl, (refl, tt)))))))
+scripts-shown = (refl, (refl, (refl, (refl, (refl, (refl, (refl, (refl, tt))))))))

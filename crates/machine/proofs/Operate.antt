@@ -15,7 +15,7 @@ use mir.Val.{toZ, ofZ, SFits}
 use mir.Facts.{toZ-ofZ}
 use Rattle.language.specs.Answers.{ErrorStop, RANGE, ZERO}
 use Rattle.language.specs.Names.{Op, not, eq, lt, add, sub, mul, div, operator}
-use Rattle.language.specs.Numbers.{in-range, quotient, Computed, amount, fails, ranged, same-number, bit, as-bit, op1, op2, compute}
+use Rattle.language.specs.Numbers.{top, in-range, quotient, Computed, amount, fails, ranged, same-number, bit, as-bit, op1, op2, compute}
 use Rattle.language.specs.Numbers as Numbers
 use Rattle.language.specs.Rules.{Val, inZ, State, no-rule, Outcome, halt, need, give, as-number, as-numbers, if-number, if-numbers, behind}
 use Rattle.language.specs.Rules as Rules
@@ -36,8 +36,8 @@ pub data Sized : Computed → Type 0 where
   fits : {z : ℤ} → SFits w64 z → Sized (amount z)
   no-amount : {x : ErrorStop} → Sized (fails x)
 
-below-greatest : (n : ℕ) → leb n 2147483647 ≡ true → n < 9223372036854775808
-below-greatest n h = let l = leb→le n 2147483647 (subst (λ (b : Bool). T b) (sym h) tt) in omega (arith, l)
+below-greatest : (n : ℕ) → leb n top ≡ true → n < 9223372036854775808
+below-greatest n h = let l = leb→le n top (subst (λ (b : Bool). T b) (sym h) tt) in omega (arith, l)
 
 first-true : (b : Bool) → cond b true false ≡ true → b ≡ true
 first-true true h = refl
@@ -45,7 +45,7 @@ first-true false h = h
 
 pub in-range-fits : (z : ℤ) → in-range z ≡ true → SFits w64 z
 in-range-fits (pos n) h = record { sfits = below-greatest n h }
-in-range-fits (negsuc n) h = record { sfits = below-greatest n (first-true (leb n 2147483647) h) }
+in-range-fits (negsuc n) h = record { sfits = below-greatest n (first-true (leb n top) h) }
 
 sized-if : (z : ℤ) (b : Bool) → in-range z ≡ b → Sized (cond b (amount z) (fails RANGE))
 sized-if z true h = fits (in-range-fits z h)

@@ -1,4 +1,4 @@
--- Worked examples of document 01, by computation; negsuc n is -(n + 1).
+-- Worked examples of document 01 and of request 6, by computation; negsuc n is -(n + 1).
 use mathlib.Core.Path.{_≡_, refl}
 use Prim.Native.Nat.{ℕ}
 use Prim.Native.String.{String}
@@ -12,16 +12,16 @@ use Rattle.numerals.specs.declared.Read.the-variants.{Number, Not}
 abbrev reads : String → ℕ → Read
 reads t i = readNumber (bytesOf t) i
 
-greatest-written : reads "2147483647" 0 ≡ Number 10 (Is (pos 2147483647))
+greatest-written : reads "9223372036854775807" 0 ≡ Number 19 (Is (pos 9223372036854775807))
 greatest-written = refl
 
-above-written : reads "2147483648" 0 ≡ Number 10 Range
+above-written : reads "9223372036854775808" 0 ≡ Number 19 Range
 above-written = refl
 
-least-written : reads "-2147483648" 0 ≡ Number 11 (Is (negsuc 2147483647))
+least-written : reads "-9223372036854775808" 0 ≡ Number 20 (Is (negsuc 9223372036854775807))
 least-written = refl
 
-below-written : reads "-2147483649" 0 ≡ Number 11 Range
+below-written : reads "-9223372036854775809" 0 ≡ Number 20 Range
 below-written = refl
 
 longest-match : reads "12ab" 0 ≡ Number 2 (Is (pos 12))

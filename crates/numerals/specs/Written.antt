@@ -6,7 +6,7 @@ use mathlib.Core.List.{List, [], _∷_}
 use lib.Dec.{eqb}
 use lib.IntN.{ℤ}
 use lib.ListN.{length, drop}
-use Rattle.language.specs.Numbers.{in-range}
+use Rattle.language.specs.Numbers.{top, in-range}
 use Rattle.language.specs.Words.{isDigit, stretch, decimal}
 use Rattle.amounts.specs.Signs.{signed}
 use Rattle.amounts.specs.declared.Amount.{Amount}
@@ -31,9 +31,9 @@ number-front i (b ∷ s) = cond (eqb b 45) (written-from (i + 1) true (stretch i
 abbrev pub readNumber : (text : List ℕ) → (place : ℕ) → Read
 readNumber text i = number-front i (drop i text)
 
--- no number of 64 bits has this magnitude
+-- no number of the range has this magnitude
 abbrev pub cap : ℕ
-cap = 9223372036854775809
+cap = top + 2
 
 -- where some digits end, and the number that they write, kept at the cap
 pub record DigitsEnd (digits : List ℕ) (from end value : ℕ) : Type 0 where

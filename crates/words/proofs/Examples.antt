@@ -59,19 +59,19 @@ unfolding nextIn
 two-keys = refl
 
 -- the edges of the range
-greatest : foundFrom (bytesOf "2147483647") 0 ≡ Number (pos 2147483647) 0 10
+greatest : foundFrom (bytesOf "9223372036854775807") 0 ≡ Number (pos 9223372036854775807) 0 19
 unfolding nextIn
 greatest = refl
 
-past-greatest : foundFrom (bytesOf "2147483648") 0 ≡ Refused 5 0
+past-greatest : foundFrom (bytesOf "9223372036854775808") 0 ≡ Refused 5 0
 unfolding nextIn
 past-greatest = refl
 
-least : foundFrom (bytesOf "-2147483648") 0 ≡ Number (negsuc 2147483647) 0 11
+least : foundFrom (bytesOf "-9223372036854775808") 0 ≡ Number (negsuc 9223372036854775807) 0 20
 unfolding nextIn
 least = refl
 
-past-least : foundFrom (bytesOf "-2147483649") 0 ≡ Refused 5 0
+past-least : foundFrom (bytesOf "-9223372036854775809") 0 ≡ Refused 5 0
 unfolding nextIn
 past-least = refl
 

@@ -68,11 +68,11 @@ unfolding read wordsFrom parse add-leaf add-fork link set-sib retype descent pas
 brackets-4097 = refl
 
 -- BYTE and NUMBER come before them, the first in the whole text
-byte-first : read (times 4097 (bytesOf "] ") (bytesOf "# 2147483648")) ≡ refuse BYTE 8194
+byte-first : read (times 4097 (bytesOf "] ") (bytesOf "# 9223372036854775808")) ≡ refuse BYTE 8194
 unfolding read wordsFrom parse add-leaf add-fork link set-sib retype descent past deep
 byte-first = refl
 
-number-first : read (times 4097 (bytesOf "] ") (bytesOf "-2147483649 #")) ≡ refuse NUMBER 8194
+number-first : read (times 4097 (bytesOf "] ") (bytesOf "-9223372036854775809 #")) ≡ refuse NUMBER 8194
 unfolding read wordsFrom parse add-leaf add-fork link set-sib retype descent past deep
 number-first = refl
 

@@ -18,18 +18,18 @@ use Rattle.language.proofs.texts.Tables.{AllComputed, computed-holds}
 
 abbrev scripts : List Case
 scripts =
-    case "[ECHO 2147483647]" (limited 100000 200 4096 4096 4096)
-    (ends done 2 0 0 (pos 2147483647 ∷ [])) ∷
-    case "[ECHO 2147483647]" (limited 40 200 4096 4096 4096)
-    (ends done 2 0 0 (pos 2147483647 ∷ [])) ∷
-    case "[ECHO 2147483647]" (limited 1000 7 4096 4096 4096)
-    (ends done 2 0 0 (pos 2147483647 ∷ [])) ∷
-    case "[ECHO 2147483647]" (limited 100000 200 3 4096 4096)
-    (ends done 2 0 0 (pos 2147483647 ∷ [])) ∷
-    case "[ECHO 2147483647]" (limited 100000 200 4096 1 4096)
-    (ends done 2 0 0 (pos 2147483647 ∷ [])) ∷
-    case "[ECHO 2147483647]" (limited 100000 200 4096 4096 2)
-    (ends done 2 0 0 (pos 2147483647 ∷ [])) ∷
+    case "[ECHO 9223372036854775807]" (limited 100000 200 4096 4096 4096)
+    (ends done 2 0 0 (pos 9223372036854775807 ∷ [])) ∷
+    case "[ECHO 9223372036854775807]" (limited 40 200 4096 4096 4096)
+    (ends done 2 0 0 (pos 9223372036854775807 ∷ [])) ∷
+    case "[ECHO 9223372036854775807]" (limited 1000 7 4096 4096 4096)
+    (ends done 2 0 0 (pos 9223372036854775807 ∷ [])) ∷
+    case "[ECHO 9223372036854775807]" (limited 100000 200 3 4096 4096)
+    (ends done 2 0 0 (pos 9223372036854775807 ∷ [])) ∷
+    case "[ECHO 9223372036854775807]" (limited 100000 200 4096 1 4096)
+    (ends done 2 0 0 (pos 9223372036854775807 ∷ [])) ∷
+    case "[ECHO 9223372036854775807]" (limited 100000 200 4096 4096 2)
+    (ends done 2 0 0 (pos 9223372036854775807 ∷ [])) ∷
     case "[ECHO (sub 1-2)]" (limited 100000 200 4096 4096 4096)
     (ends done 4 0 0 (pos 3 ∷ [])) ∷
     case "[ECHO ([x:int] (add x 1) 2)]" (limited 100000 200 4096 4096 4096)
@@ -50,9 +50,9 @@ scripts =
     (refusal-report BYTE 1) ∷
     case "[ECHO -]" (limited 100000 200 4096 4096 4096)
     (refusal-report BYTE 6) ∷
-    case "[ECHO 2147483648]" (limited 100000 200 4096 4096 4096)
+    case "[ECHO 9223372036854775808]" (limited 100000 200 4096 4096 4096)
     (refusal-report NUMBER 6) ∷
-    case "[ECHO -2147483649]" (limited 100000 200 4096 4096 4096)
+    case "[ECHO -9223372036854775809]" (limited 100000 200 4096 4096 4096)
     (refusal-report NUMBER 6) ∷
     case "" (limited 100000 200 4096 4096 4096)
     (refusal-report SYNTAX 0) ∷
@@ -80,7 +80,7 @@ scripts =
     (refusal-report TYPE 32) ∷
     case "[ IF ([a:int, e2:int] false 3 65 mul 535) [ ECHO 65535; ECHO -1;\nECHO 0] [\nECHO -0;ECHO -1;\nCONST b (int * int -> int) [c4:int, g:int] 2; ECHO -0]; ECHO ([h6:(int -> int)] -7 [h:int] h)]" (limited 100000 200 4096 4096 4096)
     (refusal-report TYPE 33) ∷
-    case "[ECHO 2147483647]" (limited 0 0 0 0 0)
+    case "[ECHO 9223372036854775807]" (limited 0 0 0 0 0)
     (ends (stopped (limit FUEL) 1) 0 0 0 []) ∷
     case "[FUN REC f int [f:int] (f 1); ECHO (f 2)]" (limited 0 0 0 0 0)
     (ends (stopped (limit FUEL) 1) 0 0 0 []) ∷
@@ -96,9 +96,9 @@ scripts =
     (ends (stopped (limit OUTPUT) 54) 14 2 0 (pos 0 ∷ negsuc 2147483647 ∷ [])) ∷
     case "[IF (if true true true) [ ECHO 32768; ECHO 32768;\nECHO 32768;\nECHO 2] [ ECHO 24;ECHO -2147483648; ECHO -7];\nECHO ([c:int] c -2147483648)]" (limited 100000 200 4096 4096 2)
     (ends (stopped (limit OUTPUT) 50) 10 0 0 (pos 32768 ∷ pos 32768 ∷ [])) ∷
-    case "[\nECHO (add 2147483647 1);ECHO ([b1:bool, g:int] g false 100)]" (limited 100000 200 4096 4096 4096)
+    case "[\nECHO (add 9223372036854775807 1);ECHO ([b1:bool, g:int] g false 100)]" (limited 100000 200 4096 4096 4096)
     (ends (stopped (error RANGE) 7) 4 0 0 []) ∷
-    case "[ ECHO (if (lt 65535 2147483647) (sub 2 -2147483648) ([b1:(int -> bool)] -2147483648 [f:int] true));\nECHO (([f3:int] [d4:bool] f3 -0) (if false false false))]" (limited 100000 200 4096 4096 4096)
+    case "[ ECHO (if (lt 65535 2147483647) (sub 2 -9223372036854775808) ([b1:(int -> bool)] -2147483648 [f:int] true));\nECHO (([f3:int] [d4:bool] f3 -0) (if false false false))]" (limited 100000 200 4096 4096 4096)
     (ends (stopped (error RANGE) 33) 8 0 0 []) ∷
     case "[ ECHO (div (sub 10 2) (mul 0 2));ECHO (add (mul 2147483647 100) ([a1:bool] 2 true))]" (limited 100000 200 4096 4096 4096)
     (ends (stopped (error ZERO) 7) 8 0 0 []) ∷

@@ -13,7 +13,7 @@ pub enum Code {
     Table = 3,
     /// A byte that is in no word and separates none.
     Byte = 4,
-    /// A written number is outside -2,147,483,648 to 2,147,483,647.
+    /// A written number is outside the range of `i64`.
     Number = 5,
     /// Over 4,096 words.
     Tokens = 6,
@@ -58,7 +58,7 @@ impl fmt::Display for Code {
             Code::Limit => "a limit is beyond its greatest value",
             Code::Table => "a table is too short",
             Code::Byte => "this byte is part of no word",
-            Code::Number => "this number is not between -2,147,483,648 and 2,147,483,647",
+            Code::Number => "this number is not between -9,223,372,036,854,775,808 and 9,223,372,036,854,775,807",
             Code::Tokens => "the text has more than 4,096 words, and this is the next",
             Code::Syntax => "no program goes on like this",
             Code::Level => "this opens a 65th level",
@@ -99,7 +99,7 @@ pub enum Stop {
     Bindings = 23,
     /// As many numbers were out as may be.
     Output = 24,
-    /// A result is outside -2,147,483,648 to 2,147,483,647.
+    /// A result is outside the range of `i64`.
     Range = 25,
     /// A division by 0.
     Zero = 26,
@@ -142,7 +142,7 @@ impl fmt::Display for Stop {
             Stop::Cells => "no cell is left for this variable",
             Stop::Bindings => "too few bindings are left for this definition or call",
             Stop::Output => "as many numbers are out as the limit lets",
-            Stop::Range => "the result is not between -2,147,483,648 and 2,147,483,647",
+            Stop::Range => "the result is not between -9,223,372,036,854,775,808 and 9,223,372,036,854,775,807",
             Stop::Zero => "this divides by 0",
             Stop::Unset => "this variable is read before it is set",
         })

@@ -45,7 +45,7 @@ fn scripts_of_the_desk() {
     expect(gate, b"[CONST x int 0; SET x 42]", MOST, refused(Code::Type, 16));
     expect(gate, b"[VAR x int; ECHO x]", MOST, stopped(Stop::Unset, 17, 3, 1, 1));
     expect(gate, b"[ECHO (div 1 0)]", MOST, stopped(Stop::Zero, 6, 4, 0, 0));
-    expect(gate, b"[ECHO (div -7 2)]", MOST, done(4, 0, 0, &[-3]));
+    expect(gate, b"[ECHO (div -7 2)]", MOST, done(4, 0, 0, &[-4]));
     expect(gate, b"[]", MOST, refused(Code::Syntax, 1));
     expect(gate, b"[ECHO true]", MOST, refused(Code::Type, 1));
     expect(gate, b"[ECHO y]", MOST, refused(Code::Type, 6));
@@ -54,10 +54,11 @@ fn scripts_of_the_desk() {
     expect(gate, b"[PROC p [var x:int] [SET x (add x 1)]; VAR v int; SET v 41; CALL p (adr v); ECHO v]", MOST, done(12, 3, 1, &[42]));
     expect(gate, b"[PROC p [var x:int] [SET x (add x 1)]; VAR v int; SET v 41; CALL p v; ECHO v]", MOST, refused(Code::Type, 60));
     expect(gate, b"[FUN REC f int [n:int] (if (lt n 1) 0 (add n (f (sub n 1)))); ECHO (f 3)]", MOST, done(43, 9, 0, &[6]));
-    expect(gate, b"[ECHO (mul 65535 32768)]", MOST, done(4, 0, 0, &[2147450880]));
-    expect(gate, b"[ECHO (mul 65536 32768)]", MOST, stopped(Stop::Range, 6, 4, 0, 0));
-    expect(gate, b"[ECHO (div -2147483648 -1)]", MOST, stopped(Stop::Range, 6, 4, 0, 0));
-    expect(gate, b"[ECHO 2147483648]", MOST, refused(Code::Number, 6));
+    expect(gate, b"[ECHO (mul 4294967295 2147483648)]", MOST, done(4, 0, 0, &[9223372034707292160]));
+    expect(gate, b"[ECHO (mul 4294967296 2147483648)]", MOST, stopped(Stop::Range, 6, 4, 0, 0));
+    expect(gate, b"[ECHO (div -9223372036854775808 -1)]", MOST, stopped(Stop::Range, 6, 4, 0, 0));
+    expect(gate, b"[ECHO 9223372036854775807; ECHO -9223372036854775808]", MOST, done(4, 0, 0, &[i64::MAX, i64::MIN]));
+    expect(gate, b"[ECHO 9223372036854775808]", MOST, refused(Code::Number, 6));
     let rounds = b"[VAR x int; SET x 0; WHILE (lt x 3) [ECHO x; SET x (add x 1)]]";
     expect(gate, rounds, MOST.with_fuel(100_000), done(37, 1, 1, &[0, 1, 2]));
 }

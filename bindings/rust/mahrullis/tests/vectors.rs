@@ -53,7 +53,7 @@ fn end(end: End) -> (u64, u64) {
     }
 }
 
-/// A case: 13 columns of 8 bytes and a name in 128 bytes, then the script, if it is a new one, and a line of 12 bytes for each number.
+/// A case: 13 columns of 8 bytes and a name in 128 bytes, then the script, if it is a new one, and a line of 24 bytes for each number.
 fn run_cases(program: &str) {
     let (cases, count_of_cases) = cases_of(program);
     let mut input = Input(&cases);
@@ -68,7 +68,7 @@ fn run_cases(program: &str) {
             let script = input.line(length as usize + 1);
             text = script;
         }
-        let numbers: Vec<i64> = (0..count).map(|_| decimal(input.line(12))).collect();
+        let numbers: Vec<i64> = (0..count).map(|_| decimal(input.line(24))).collect();
         let named = format!("{program} {tried}: {}", String::from_utf8_lossy(&line[104..]).trim_end());
         let limits = Limits::new(fuel, depth, bindings, cells, output);
         let (ended, tree) = match gate.run(text, limits) {

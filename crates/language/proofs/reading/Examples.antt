@@ -34,11 +34,11 @@ w5 : wordsOf (bytesOf " - 1") ≡ refuse BYTE 1
 unfolding wordsFrom
 w5 = refl
 
-w6 : wordsOf (bytesOf "2147483647 -2147483648") ≡ fine (number 0 (pos 2147483647) ∷ number 11 (negsuc 2147483647) ∷ [])
+w6 : wordsOf (bytesOf "9223372036854775807 -9223372036854775808") ≡ fine (number 0 (pos 9223372036854775807) ∷ number 20 (negsuc 9223372036854775807) ∷ [])
 unfolding wordsFrom
 w6 = refl
 
-w7 : wordsOf (bytesOf "x 2147483648 ?") ≡ refuse NUMBER 2
+w7 : wordsOf (bytesOf "x 9223372036854775808 ?") ≡ refuse NUMBER 2
 unfolding wordsFrom
 w7 = refl
 
@@ -98,7 +98,7 @@ unfolding read wordsFrom parse add-leaf add-fork link set-sib retype descent pas
 r10 = refl
 
 -- BYTE or NUMBER, whichever stands first, before SYNTAX
-r11 : read (bytesOf "] 2147483648 #") ≡ refuse NUMBER 2
+r11 : read (bytesOf "] 9223372036854775808 #") ≡ refuse NUMBER 2
 unfolding read wordsFrom parse add-leaf add-fork link set-sib retype descent past deep
 r11 = refl
 

@@ -1,8 +1,8 @@
 -- Worked examples: the rest of the desk's scripts, the errors seen in other gateways, and the order of judging, from their texts, by computation.
 use mathlib.Core.Path.{refl}
 use mathlib.Core.List.{List, [], _∷_}
-use lib.IntN.{pos}
-use Rattle.language.specs.Answers.{TYPE, DOUBLE, FUEL, DEPTH, CELLS, BINDINGS, OUTPUT, RANGE, UNSET, limit, error, done, stopped}
+use lib.IntN.{pos, negsuc}
+use Rattle.language.specs.Answers.{TYPE, DOUBLE, FUEL, DEPTH, CELLS, BINDINGS, OUTPUT, RANGE, UNSET, limit, error, done, stopped, NUMBER}
 use Rattle.language.specs.Names.{meaning}
 use Rattle.language.specs.Words.{wordsFrom}
 use Rattle.language.specs.Limits.{greatest-limits}
@@ -25,12 +25,26 @@ worked =
     (refusal-report TYPE 60) ∷
     case "[FUN REC f int [n:int] (if (lt n 1) 0 (add n (f (sub n 1)))); ECHO (f 3)]" greatest-limits
     (ends done 43 9 0 (pos 6 ∷ [])) ∷
-    case "[ECHO (mul 65535 32768)]" greatest-limits
-    (ends done 4 0 0 (pos 2147450880 ∷ [])) ∷
-    case "[ECHO (mul 65536 32768)]" greatest-limits
+    -- ---- the range's edges, as computed
+    case "[ECHO (mul 4294967295 2147483648)]" greatest-limits
+    (ends done 4 0 0 (pos 9223372034707292160 ∷ [])) ∷
+    case "[ECHO (mul 4294967296 2147483648)]" greatest-limits
     (ends (stopped (error RANGE) 6) 4 0 0 []) ∷
-    case "[ECHO (div -2147483648 -1)]" greatest-limits
+    case "[ECHO (div -9223372036854775808 -1)]" greatest-limits
     (ends (stopped (error RANGE) 6) 4 0 0 []) ∷
+    case "[ECHO (mul 4294967296 -2147483648); ECHO (mul 3037000499 3037000499); ECHO (mul 3037000500 3037000500)]" greatest-limits
+    (ends (stopped (error RANGE) 75) 12 0 0 (negsuc 9223372036854775807 ∷ pos 9223372030926249001 ∷ [])) ∷
+    case "[ECHO (add 9223372036854775806 1); ECHO (sub -9223372036854775807 1); ECHO (add 9223372036854775807 1)]" greatest-limits
+    (ends (stopped (error RANGE) 75) 12 0 0 (pos 9223372036854775807 ∷ negsuc 9223372036854775807 ∷ [])) ∷
+    case "[ECHO (sub -9223372036854775808 1)]" greatest-limits
+    (ends (stopped (error RANGE) 6) 4 0 0 []) ∷
+    case "[ECHO 9223372036854775808]" greatest-limits
+    (refusal-report NUMBER 6) ∷
+    case "[ECHO 1; ECHO -9223372036854775809]" greatest-limits
+    (refusal-report NUMBER 14) ∷
+    -- ---- div rounds down
+    case "[ECHO (div 7 2); ECHO (div -7 -2); ECHO (div 7 -2); ECHO (div -8 2); ECHO (div 8 -2); ECHO (div -1 3); ECHO (div 1 -3); ECHO (div 0 -3)]" greatest-limits
+    (ends done 32 0 0 (pos 3 ∷ pos 3 ∷ negsuc 3 ∷ negsuc 3 ∷ negsuc 3 ∷ negsuc 0 ∷ negsuc 0 ∷ pos 0 ∷ [])) ∷
     case "[VAR x int; SET x 0; WHILE (lt x 3) [ECHO x; SET x (add x 1)]]" (limited 100000 200 4096 4096 4096)
     (ends done 37 1 1 (pos 0 ∷ pos 1 ∷ pos 2 ∷ [])) ∷
     -- ---- a body has the names of its definition, not its caller's
@@ -127,7 +141,7 @@ worked =
 worked-computed : AllComputed worked
 unfolding outcome verdict judged-text judged-tree read wordsFrom parse add-leaf add-fork link set-sib retype descent past deep level bind need within branch give give-cell meaning andThen judged only passes single same-type judge-after judge-expr judge-arg judge-args judge-cmds
 worked-computed =
-    (refl, (refl, (refl, (refl, (refl, (refl, (refl, (refl, (refl, (refl, (refl, (refl, (refl, (refl, (refl, (refl, (refl, (refl, (refl, (refl, (refl, (refl, (refl, (refl, (refl, (refl, (refl, (refl, (refl, (refl, (refl, (refl, (refl, (refl, (refl, (refl, (refl, (refl, (refl, (refl, (refl, (refl, (refl, (refl, (refl, (refl, (refl, tt)))))))))))))))))))))))))))))))))))))))))))))))
+    (refl, (refl, (refl, (refl, (refl, (refl, (refl, (refl, (refl, (refl, (refl, (refl, (refl, (refl, (refl, (refl, (refl, (refl, (refl, (refl, (refl, (refl, (refl, (refl, (refl, (refl, (refl, (refl, (refl, (refl, (refl, (refl, (refl, (refl, (refl, (refl, (refl, (refl, (refl, (refl, (refl, (refl, (refl, (refl, (refl, (refl, (refl, (refl, (refl, (refl, (refl, (refl, (refl, tt)))))))))))))))))))))))))))))))))))))))))))))))))))))
 
 pub worked-hold : AllHold worked
 worked-hold = computed-holds worked worked-computed

@@ -46,10 +46,10 @@ const SCRIPTS: [&str; 36] = [
     "[PROC p [var x:int] [SET x (add x 1)]; VAR v int; SET v 41; CALL p (adr v); ECHO v]",
     "[PROC p [var x:int] [SET x (add x 1)]; VAR v int; SET v 41; CALL p v; ECHO v]",
     "[FUN REC f int [n:int] (if (lt n 1) 0 (add n (f (sub n 1)))); ECHO (f 3)]",
-    "[ECHO (mul 65535 32768)]",
-    "[ECHO (mul 65536 32768)]",
-    "[ECHO (div -2147483648 -1)]",
-    "[ECHO 2147483648]",
+    "[ECHO (mul 4294967295 2147483648)]",
+    "[ECHO (mul 4294967296 2147483648)]",
+    "[ECHO (div -9223372036854775808 -1)]",
+    "[ECHO 9223372036854775808]",
     "[VAR x int; SET x 0; WHILE (lt x 3) [ECHO x; SET x (add x 1)]]",
     "[VAR x int; SET x 0; WHILE true [SET x (sub 1 x)]]",
     "[VAR x int; SET x 0; WHILE true [ECHO x; SET x (add x 1)]]",
@@ -69,7 +69,7 @@ const SCRIPTS: [&str; 36] = [
 #[rustfmt::skip]
 const WORDS: [&str; 52] = [
     "[", "]", "(", ")", ";", ":", ",", "*", "->", "CONST", "FUN", "REC", "VAR", "PROC", "ECHO", "SET", "IF", "WHILE", "CALL", "if", "and", "or", "bool", "int", "var",
-    "adr", "true", "false", "not", "eq", "lt", "add", "sub", "mul", "div", "x", "y", "f", "n", "p", "0", "1", "-1", "42", "2147483647", "-2147483648", "2147483648",
+    "adr", "true", "false", "not", "eq", "lt", "add", "sub", "mul", "div", "x", "y", "f", "n", "p", "0", "1", "-1", "42", "9223372036854775807", "-9223372036854775808", "9223372036854775808",
     "ECHO 1;", "[ECHO x]", "(add x 1)", "[n:int]", "(int -> int)",
 ];
 
@@ -102,7 +102,7 @@ const STATEMENTS: [&str; 20] = [
     "IF b [ECHO 1] [ECHO 2]",
     "SET b (eq x 3)",
     "ECHO (div k (sub x 3))",
-    "ECHO (mul 65536 (mul k 9999))",
+    "ECHO (mul 281474976710656 (mul k 9999))",
     "ECHO (g 300)",
     "WHILE true [SET x 1]",
     "CALL q 30",
