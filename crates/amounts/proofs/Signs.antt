@@ -1,14 +1,13 @@
--- Sums, products and quotients by sign and magnitude.
+-- Products and quotients by sign and magnitude.
 use mathlib.Core.Path.{_≡_, refl, sym, ap, subst, _∙_}
 use mathlib.Core.Bool.{Bool, true, false, not, Bool·beq}
-use mathlib.Core.Logic.{⊎-elim}
 use Prim.Native.Nat.{ℕ, zero, suc, _+_, _-_, _*_, _/_, _≤_, _<_}
-use native.Mathlib.Nat.{zero-mul, mul-zero, zero-div, div-lt-iff-lt-mul, le-div-iff-mul-le, eq-or-lt-of-le}
+use native.Mathlib.Nat.{zero-mul, mul-zero, zero-div, div-lt-iff-lt-mul, le-div-iff-mul-le}
 use native.Mathlib.Numerals.{add-one}
 use native.Mathlib.Omega.{arith}
 use lib.Dec.{T}
-use lib.IntN.{ℤ, pos, negsuc, negℤ, _+ℤ_, _*ℤ_, +ℤ-comm, negℤ-+ℤ, zero-*ℤ}
-use borrow.Author.Tests.{lt-ltb, le-ltb, lt-leb}
+use lib.IntN.{ℤ, pos, negsuc, negℤ, _*ℤ_, zero-*ℤ}
+use borrow.Author.Tests.{lt-leb}
 use mir.Syntax.{w64}
 use mir.Val.{Fits}
 use Rattle.language.specs.Answers.{RANGE, ZERO}
@@ -26,11 +25,6 @@ differ-unlike false false = refl
 pub no-sign : (s : Bool) → signed s 0 ≡ pos 0
 no-sign true = refl
 no-sign false = refl
-
-pub opposite : (t : Bool) (y : ℕ) → signed (not t) y ≡ negℤ (signed t y)
-opposite true zero = refl
-opposite true (suc y) = refl
-opposite false y = refl
 
 neg-zero : (n : ℕ) → n ≡ 0 → pos n ≡ negℤ (pos n)
 neg-zero zero e = refl

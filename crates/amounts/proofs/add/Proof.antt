@@ -1,6 +1,7 @@
 use mathlib.Core.Path.{_∙_}
 use native.Mathlib.Omega.{arith}
-use Rattle.amounts.proofs.Bits.{told, higher-fits, lower-fits, sum-kept, size-below, size-above, sum-under, sum-from}
+use Rattle.amounts.proofs.Bits.{told}
+use Rattle.amounts.proofs.Sums.{higher-fits, lower-fits, sum-kept, size-below, size-above, sum-under, sum-from}
 use borrow.Author.Needs.{needs}
 use Rattle.amounts.proofs.add.Statement.{statement}
 use Rattle.amounts.proofs.add.Tie as tie

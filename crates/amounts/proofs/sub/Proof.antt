@@ -1,6 +1,7 @@
 use mathlib.Core.Path.{_∙_}
 use native.Mathlib.Omega.{arith}
-use Rattle.amounts.proofs.Bits.{told, below-fits, above-fits, difference-kept, size-below, size-above, difference-under, difference-from}
+use Rattle.amounts.proofs.Bits.{told}
+use Rattle.amounts.proofs.Sums.{below-fits, above-fits, difference-kept, size-below, size-above, difference-under, difference-from}
 use borrow.Author.Needs.{needs}
 use Rattle.amounts.proofs.sub.Statement.{statement}
 use Rattle.amounts.proofs.sub.Tie as tie
