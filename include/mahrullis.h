@@ -1,4 +1,4 @@
-/* Mahrullis: CHECK, RUN and NAME of APS scripts, over tables that the caller lends.
+/* Mahrullis: CHECK, RUN and NAME of APS scripts, and runs that are paid from purses, over tables that the caller lends.
  *
  * Link target/staticlib/libmahrullis.a (`rt staticlib mahrullis`; x86-64 Linux). The archive's code is proved; this header and its inline functions are not.
  * The least that works: a `static struct mahrullis_tables`, and mahrullis_run_text or mahrullis_check_text over it.
@@ -46,7 +46,8 @@ typedef char mahrullis_needs_64_bits[sizeof(size_t) == 8 ? 1 : -1];
 #define MAHRULLIS_ENTRIES_A_CELL 2
 #define MAHRULLIS_ENTRIES_A_NUMBER 1
 
-/* Every answer. CHECK gives 0, 1 and 3 to 10, RUN all of them, NAME 0 and 3. 1 to 10 are refusals; 20 to 27 stop a run, 20 to 24 at a limit. */
+/* Every answer. CHECK gives 0, 1 and 3 to 10, RUN 0, 1 to 10 and 20 to 27, NAME 0 and 3. 1 to 10 are refusals; 20 to 27 stop a run,
+ * 20 to 24 at a limit. 34 to 36 refuse calls on purses. */
 enum mahrullis_answer {
     MAHRULLIS_DONE = 0,      /* accepted, or run to its end; place 0 */
     MAHRULLIS_LENGTH = 1,    /* the text is over 16,384 bytes; place 0 */
@@ -66,7 +67,10 @@ enum mahrullis_answer {
     MAHRULLIS_OUTPUT = 24,   /* as many numbers are out as may be, at the ECHO */
     MAHRULLIS_RANGE = 25,    /* a result is outside the range of int64_t, at the application */
     MAHRULLIS_ZERO = 26,     /* div by 0, at the application */
-    MAHRULLIS_UNSET = 27     /* a cell is read before it is set, at the name */
+    MAHRULLIS_UNSET = 27,    /* a cell is read before it is set, at the name */
+    MAHRULLIS_PURSE = 34,    /* calls on purses: a purse above 63, or a credit past the most that a purse holds; place 0 */
+    MAHRULLIS_JOURNAL = 35,  /* a record of the journal has its mark and is wrong; place 0 */
+    MAHRULLIS_FULL = 36      /* no whole record is left in the journal; place 0 */
 };
 
 /* The kinds of a tree's nodes. */
@@ -137,6 +141,81 @@ uint64_t mahrullis_run(const uint8_t *text, size_t text_length,
  * digits from `at` if it starts with a letter, else, and past the end, an empty part. The offset is `at`, or the text's length where `at` is past it, so
  * offset + length is never more than the text's length. Texts of any length; key words count as names. A part of under two entries is answered 3, unchanged. */
 uint64_t mahrullis_name(const uint8_t *text, size_t text_length, size_t at, uint64_t *part, size_t part_length);
+
+/* ---- Purses: 64 of them, 0 to 63, each up to MAHRULLIS_PURSE_MOST, kept in a journal and nowhere else.
+ *
+ * The journal is lent with all bytes zero at first, and then as the last call left it. A record has 8 bytes, most significant first: kind 4 bits (1 credit, 2
+ * charge), purse 12, amount 32, zeros 8, mark 8, which is A5 hex and is stored last. Reading back goes up to the first record without its mark.
+ * A run gets the lesser of the fuel asked for and the purse, and is charged the units that it reports; a refused text costs nothing. Its numbers are held back
+ * in `held`, and handed to `bank` by steps after the charge's mark alone.
+ *
+ * A call makes steps: 8 stores of a byte each into the journal, then one for each number that is handed on. After any of them it may be cut: before the mark is
+ * stored the purses are as before the call, and from then on as after it. Refusals come in the order JOURNAL, PURSE, FULL, then those of the text, LIMIT judged on
+ * the fuel asked for; a refused call makes no step.
+ * For a journal that a cut can tear, as a file, begin a call and make its steps one by one: mahrullis_credit_begin or mahrullis_purse_run_begin, then
+ * mahrullis_purse_step with k = 0, 1, 2 .. until it answers 0, each byte made durable before the next step. A compiler may join the stores of one call, so
+ * mahrullis_credit and mahrullis_purse_run, which make the steps themselves, are for journals in memory. */
+#define MAHRULLIS_PURSES 64
+#define MAHRULLIS_PURSE_MOST 4294967295
+#define MAHRULLIS_RECORD_BYTES 8
+#define MAHRULLIS_PENDING_ENTRIES 5
+
+/* The purses that the journal is read back to: purses[0] to purses[63], entries behind them untouched. Answers 0, 35 (the purses are those of the records before
+ * the wrong one) or, for a table of under 64 entries, 3. */
+uint64_t mahrullis_purses(const uint8_t *journal, size_t journal_length, uint64_t *purses, size_t purses_length);
+
+/* A credit, of whose steps the first n are made: SIZE_MAX makes all. Answers 0, 34, 35 or 36, or 3 where purses has under 64 entries and nothing is changed.
+ * The table of purses is left as the journal was read back before the call. */
+uint64_t mahrullis_credit(uint8_t *journal, size_t journal_length, uint64_t purse, uint64_t amount, size_t n, uint64_t *purses, size_t purses_length);
+
+/* A credit up to its first step: answers as above, and writes pending[0] to pending[4]: the record's kind (0 where there is none), place, purse and amount, and 0.
+ * The byte that step k stores is journal[8 * pending[1] + k]. */
+uint64_t mahrullis_credit_begin(const uint8_t *journal, size_t journal_length, uint64_t purse, uint64_t amount,
+    uint64_t *purses, size_t purses_length,
+    uint64_t *pending, size_t pending_length);
+
+/* Step k of the call that is pending, from 0: answers 1, or 0 and does nothing where k is past its last step, where the journal has no record at the place, or where
+ * held or bank have fewer entries than numbers are held. */
+uint64_t mahrullis_purse_step(const uint64_t *pending, size_t pending_length, size_t k,
+    uint8_t *journal, size_t journal_length,
+    const int64_t *held, size_t held_length,
+    int64_t *bank, size_t bank_length);
+
+/* A run from a purse up to its first step: as mahrullis_run, with `held` for the output, and as mahrullis_credit_begin; pending[4] is how many numbers are held.
+ * After 34 to 36 RUN's tables are as they were. A table of purses, a report or pending that is too short is answered 3 before anything else. */
+uint64_t mahrullis_purse_run_begin(const uint8_t *journal, size_t journal_length, uint64_t purse,
+    const uint8_t *text, size_t text_length,
+    uint64_t fuel, uint64_t depth, uint64_t most_bindings, uint64_t most_cells, uint64_t most_numbers,
+    uint64_t *tree, size_t tree_length,
+    uint64_t *words, size_t words_length,
+    uint64_t *stack, size_t stack_length,
+    uint64_t *scopes, size_t scopes_length,
+    uint64_t *notes, size_t notes_length,
+    uint64_t *waiting, size_t waiting_length,
+    uint64_t *bindings, size_t bindings_length,
+    uint64_t *cells, size_t cells_length,
+    int64_t *held, size_t held_length,
+    uint64_t *purses, size_t purses_length,
+    uint64_t *report, size_t report_length,
+    uint64_t *pending, size_t pending_length);
+
+/* A run from a purse, of whose steps the first n are made: SIZE_MAX makes all. `bank` gets the numbers handed on, and the rest of it is as it was; it must have as
+ * many entries as `held`, else 3 is answered before anything else. */
+uint64_t mahrullis_purse_run(uint8_t *journal, size_t journal_length, uint64_t purse, size_t n,
+    int64_t *bank, size_t bank_length,
+    const uint8_t *text, size_t text_length,
+    uint64_t fuel, uint64_t depth, uint64_t most_bindings, uint64_t most_cells, uint64_t most_numbers,
+    uint64_t *tree, size_t tree_length,
+    uint64_t *words, size_t words_length,
+    uint64_t *stack, size_t stack_length,
+    uint64_t *scopes, size_t scopes_length,
+    uint64_t *notes, size_t notes_length,
+    uint64_t *waiting, size_t waiting_length,
+    uint64_t *bindings, size_t bindings_length,
+    uint64_t *cells, size_t cells_length,
+    int64_t *held, size_t held_length,
+    uint64_t *purses, size_t purses_length,
+    uint64_t *report, size_t report_length);
 
 /* All tables at their greatest sizes, 430 KB: declare it static or allocate it, and do not put it on a stack. Any contents will do, so it needs no
  * initialiser. One for each thread that calls at the same time. */

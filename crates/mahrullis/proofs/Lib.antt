@@ -1,3 +1,4 @@
 pub mod Tables
 pub mod Ways
 pub mod Pinned
+pub mod PurseWays

@@ -1,5 +1,7 @@
 // The jobs as C functions. A slice is a pointer and a length for its caller; an answer comes back as document 01's number, and with it a report in a lent table.
 // `include/mahrullis.h` declares them.
+mod calls; // calls.rt: purses and their journal
+
 use answers::Report;
 use answers::answer_to;
 use answers::number_of;

@@ -34,7 +34,7 @@ pub struct Report<'a> {
 }
 
 /// What an answer says: the text was accepted and, in a run, so ended; or it was refused.
-fn end_of(number: u64, place: u64) -> Result<End, Refusal> {
+pub(crate) fn end_of(number: u64, place: u64) -> Result<End, Refusal> {
     let place = place as usize;
     if number == 0 {
         return Ok(End::Done);
@@ -70,10 +70,15 @@ impl Gate {
     }
 
     /// The tables, as the jobs are lent them.
-    fn lend(&mut self) -> (Common<'_>, Running<'_>) {
+    pub(crate) fn lend(&mut self) -> (Common<'_>, Running<'_>) {
         let common = Common { tree: &mut self.tree, words: &mut self.words, stack: &mut self.stack, scopes: &mut self.scopes, notes: &mut self.notes };
         let running = Running { waiting: &mut self.waiting, bindings: &mut self.bindings, cells: &mut self.cells, output: &mut self.output };
         (common, running)
+    }
+
+    /// The numbers that the last run put out, and what stands behind them.
+    pub(crate) fn held(&self) -> &[i64] {
+        &self.output
     }
 
     /// CHECK: the tree of a text that is a program and whose types hold, else the earliest refusal.

@@ -23,6 +23,8 @@
 //! assert_eq!(refusal.to_string(), "refused 9 at 16: a rule of the types cannot be met here");
 //! ```
 //!
+//! [`Purses`] pay for runs from a journal that the caller keeps, byte by byte, so that a cut at any time leaves them as before or as after a call.
+//!
 //! What is not promised here: how long a call takes, and anything about where a text comes from or where its numbers go.
 #![deny(missing_docs)]
 #![deny(unsafe_code)]
@@ -32,10 +34,12 @@ mod answers;
 mod ffi;
 mod gate;
 mod limits;
+mod purses;
 pub mod raw;
 mod tree;
 
 pub use answers::{Code, End, Refusal, Stop};
 pub use gate::{name_at, Gate, Report};
 pub use limits::Limits;
+pub use purses::{PurseRefusal, PurseRun, Purses, Step, Steps, PURSES, PURSE_MOST, RECORD_BYTES};
 pub use tree::{Children, Kind, Node, Nodes, Tree};

@@ -29,6 +29,9 @@ pub const REPORT_ENTRIES: usize = 6;
 /// Entries of a part: a name's offset and its length.
 pub const PART_ENTRIES: usize = 2;
 
+/// Entries of what a call on purses has pending: the record's kind, place, purse and amount, and how many numbers are held.
+pub(crate) const PENDING_ENTRIES: usize = 5;
+
 /// The tables that CHECK and RUN are lent.
 #[derive(Debug)]
 pub struct Common<'a> {

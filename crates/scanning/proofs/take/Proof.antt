@@ -1,3 +1,4 @@
+-- Written by tools/prove from Proof.tmpl.
 use mathlib.Core.Path.{refl, sym, _∙_, ap}
 use Rattle.scanning.specs.Turns.{at-end}
 use borrow.Author.Needs.{needs}
