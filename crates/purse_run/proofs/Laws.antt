@@ -9,7 +9,7 @@ use lib.Dec.{leb, ltb}
 use lib.IntN.{ℤ}
 use lib.ListN.{length, take, drop}
 use borrow.Author.Tests.{leb-true, leb-false, le-leb, lt-leb, lt-ltb, le-ltb}
-use Rattle.language.specs.Answers.{LENGTH, LIMIT, TABLE, BYTE, NUMBER, TOKENS, SYNTAX, LEVEL, TYPE, FUEL, DEPTH, CELLS, BINDINGS, OUTPUT, RANGE, ZERO, UNSET, limit, error, Answer, done, refused, stopped, number-of}
+use Rattle.language.specs.Answers.{LENGTH, LIMIT, TABLE, BYTE, NUMBER, TOKENS, SYNTAX, LEVEL, TYPE, DOUBLE, FUEL, DEPTH, CELLS, BINDINGS, OUTPUT, RANGE, ZERO, UNSET, limit, error, Answer, done, refused, stopped, number-of}
 use Rattle.language.specs.Limits.{Limits, greatest-limits}
 use Rattle.language.specs.Promises.{Lent, large-enough, tree-table, all-large, Ran, Run, too-long, too-much, too-small, not-run, ran}
 use Rattle.language.specs.Rules.{run}
@@ -51,27 +51,29 @@ not-zero (refused TOKENS q) e = absurd (omega (arith, e))
 not-zero (refused SYNTAX q) e = absurd (omega (arith, e))
 not-zero (refused LEVEL q) e = absurd (omega (arith, e))
 not-zero (refused TYPE q) e = absurd (omega (arith, e))
+not-zero (refused DOUBLE q) e = absurd (omega (arith, e))
 not-zero (stopped w q) e = refl
 
-pub up-to-nine : (a : Answer) → (number-of a ≡ 0 → ⊥) → leb (number-of a) 9 ≡ refused-answer a
-up-to-nine done e = absurd (e refl)
-up-to-nine (refused LENGTH q) e = refl
-up-to-nine (refused LIMIT q) e = refl
-up-to-nine (refused TABLE q) e = refl
-up-to-nine (refused BYTE q) e = refl
-up-to-nine (refused NUMBER q) e = refl
-up-to-nine (refused TOKENS q) e = refl
-up-to-nine (refused SYNTAX q) e = refl
-up-to-nine (refused LEVEL q) e = refl
-up-to-nine (refused TYPE q) e = refl
-up-to-nine (stopped (limit FUEL) q) e = refl
-up-to-nine (stopped (limit DEPTH) q) e = refl
-up-to-nine (stopped (limit CELLS) q) e = refl
-up-to-nine (stopped (limit BINDINGS) q) e = refl
-up-to-nine (stopped (limit OUTPUT) q) e = refl
-up-to-nine (stopped (error RANGE) q) e = refl
-up-to-nine (stopped (error ZERO) q) e = refl
-up-to-nine (stopped (error UNSET) q) e = refl
+pub up-to-last : (a : Answer) → (number-of a ≡ 0 → ⊥) → leb (number-of a) 10 ≡ refused-answer a
+up-to-last done e = absurd (e refl)
+up-to-last (refused LENGTH q) e = refl
+up-to-last (refused LIMIT q) e = refl
+up-to-last (refused TABLE q) e = refl
+up-to-last (refused BYTE q) e = refl
+up-to-last (refused NUMBER q) e = refl
+up-to-last (refused TOKENS q) e = refl
+up-to-last (refused SYNTAX q) e = refl
+up-to-last (refused LEVEL q) e = refl
+up-to-last (refused TYPE q) e = refl
+up-to-last (refused DOUBLE q) e = refl
+up-to-last (stopped (limit FUEL) q) e = refl
+up-to-last (stopped (limit DEPTH) q) e = refl
+up-to-last (stopped (limit CELLS) q) e = refl
+up-to-last (stopped (limit BINDINGS) q) e = refl
+up-to-last (stopped (limit OUTPUT) q) e = refl
+up-to-last (stopped (error RANGE) q) e = refl
+up-to-last (stopped (error ZERO) q) e = refl
+up-to-last (stopped (error UNSET) q) e = refl
 
 none-charged : (p u : ℕ) (a : Answer) → refused-answer a ≡ true → charged p a u ≡ none
 none-charged p u done e = differ e refl

@@ -39,7 +39,9 @@ fn fuel_given(fuel: u64, holds: u64) -> u64
     holds
 }
 
-// RUN's refusals are 1 to 9.
+// RUN's refusals are 1 to 10.
+const LAST_REFUSAL: u64 = 10;
+
 pub fn is_refused(answer: Answer) -> bool
     ensures { λ r. ⌜ r ≡ refused-answer (meant answer) ⌝ }
 {
@@ -47,7 +49,7 @@ pub fn is_refused(answer: Answer) -> bool
     if number == 0 {
         return false;
     }
-    number <= 9
+    number <= LAST_REFUSAL
 }
 
 // The steps of a run that has ended: none where it was refused.
