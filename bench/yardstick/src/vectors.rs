@@ -27,6 +27,12 @@ pub struct CheckCase {
     pub tree: Vec<u64>,
 }
 
+/// The start of a text, on one line: enough to tell it by.
+pub fn shown(text: &[u8]) -> String {
+    const BYTES: usize = 120;
+    format!("{:?}", String::from_utf8_lossy(&text[..text.len().min(BYTES)]))
+}
+
 /// The first line of a case of RUN: so many columns of so many bytes, then its name.
 const COLUMNS: usize = 13;
 const COLUMN_BYTES: usize = 8;

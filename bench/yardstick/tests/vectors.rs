@@ -1,7 +1,7 @@
 //! The yardstick answers every vector of the repository as expected: what is slower or quicker than it does the same job.
 #![forbid(unsafe_code)]
 
-use yardstick::vectors::{check_cases, run_cases};
+use yardstick::vectors::{check_cases, run_cases, shown};
 use yardstick::Yardstick;
 
 /// Fails with those that differ, the first few in full.
@@ -19,7 +19,7 @@ fn run() {
     for case in &cases {
         let report = yardstick.run(&case.text, case.limits);
         if report != case.report || yardstick.numbers() != case.numbers {
-            differ.push(format!("{:?} and not {:?}: {}", report, case.report, String::from_utf8_lossy(&case.text)));
+            differ.push(format!("{:?} and not {:?}: {}", report, case.report, shown(&case.text)));
         }
     }
     none_differ(&differ, cases.len());
@@ -33,7 +33,7 @@ fn check() {
     for case in &cases {
         let answer = yardstick.check(&case.text).map_or_else(|refusal| (refusal.code, refusal.place), |()| (0, 0));
         if answer != case.answer || yardstick.tree() != case.tree {
-            differ.push(format!("{:?} and not {:?}: {}", answer, case.answer, String::from_utf8_lossy(&case.text)));
+            differ.push(format!("{:?} and not {:?}: {}", answer, case.answer, shown(&case.text)));
         }
     }
     none_differ(&differ, cases.len());
