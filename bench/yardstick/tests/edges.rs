@@ -1,0 +1,75 @@
+//! Edges of the language: numbers at the ends of their range, division that rounds down, parameters of one name.
+#![forbid(unsafe_code)]
+
+use yardstick::{Limits, Yardstick};
+
+const NUMBER: u8 = 5;
+const TYPE: u8 = 9;
+const DOUBLE: u8 = 10;
+const RANGE: u8 = 25;
+const ZERO: u8 = 26;
+
+/// A script whose run ends with this answer where `@` stands, which is no part of it.
+fn ends(marked: &str, code: u8) {
+    let place = marked.find('@').expect("a place");
+    let text = marked.replace('@', "");
+    let report = Yardstick::new().run(text.as_bytes(), Limits::GREATEST);
+    assert_eq!((report.code, usize::from(report.place)), (code, place), "{text}");
+}
+
+/// An expression whose value is put out.
+fn gives(expression: &str, number: i64) {
+    let mut yardstick = Yardstick::new();
+    let report = yardstick.run(format!("[ECHO {expression}]").as_bytes(), Limits::GREATEST);
+    assert_eq!((report.code, yardstick.numbers()), (0, &[number][..]), "{expression}");
+}
+
+#[test]
+fn the_range_is_that_of_64_bits() {
+    gives("9223372036854775807", i64::MAX);
+    gives("-9223372036854775808", i64::MIN);
+    gives("-0009223372036854775808", i64::MIN);
+    ends("[ECHO @9223372036854775808]", NUMBER);
+    ends("[ECHO @-9223372036854775809]", NUMBER);
+    ends("[ECHO @100000000000000000000]", NUMBER);
+    gives("(add -9223372036854775808 9223372036854775807)", -1);
+    ends("[ECHO @(add 9223372036854775807 1)]", RANGE);
+    ends("[ECHO @(sub -9223372036854775808 1)]", RANGE);
+    gives("(mul 3037000499 3037000499)", 9_223_372_030_926_249_001);
+    ends("[ECHO @(mul 3037000500 3037000500)]", RANGE);
+    gives("(mul 4294967296 -2147483648)", i64::MIN);
+    ends("[ECHO @(mul -9223372036854775808 -1)]", RANGE);
+    // every number may stand in a cell
+    let text = "[VAR x int; SET x -9223372036854775808; ECHO x]";
+    let mut yardstick = Yardstick::new();
+    assert_eq!((yardstick.run(text.as_bytes(), Limits::GREATEST).code, yardstick.numbers()), (0, &[i64::MIN][..]));
+}
+
+#[test]
+fn division_rounds_down() {
+    gives("(div 7 2)", 3);
+    gives("(div -7 2)", -4);
+    gives("(div 7 -2)", -4);
+    gives("(div -7 -2)", 3);
+    gives("(div -8 2)", -4);
+    gives("(div -9223372036854775808 1)", i64::MIN);
+    ends("[ECHO @(div -9223372036854775808 -1)]", RANGE);
+    ends("[ECHO @(div -9223372036854775808 0)]", ZERO);
+}
+
+#[test]
+fn a_parameter_list_has_a_name_once() {
+    ends("[FUN f int [x:int, @x:bool] 1; ECHO 1]", DOUBLE);
+    ends("[FUN REC f int [x:int, y:int, @x:int] 1; ECHO 1]", DOUBLE);
+    ends("[PROC p [x:int, var @x:int] [ECHO 1]; ECHO 1]", DOUBLE);
+    ends("[PROC REC p [var x:int, @x:int, x:int] [ECHO 1]; ECHO 1]", DOUBLE);
+    ends("[ECHO ([x:int, @x:int] x 1 2)]", DOUBLE);
+    // judged as parameters end, before what follows them; at one node TYPE comes first
+    ends("[FUN f int [x:int, @x:int, add:int] y; ECHO 1]", DOUBLE);
+    ends("[FUN f int [@add:int, add:int] 1; ECHO 1]", TYPE);
+    ends("[PROC p [x:int, var @x:(int -> int)] [ECHO 1]; ECHO 1]", TYPE);
+    // lists within each other, and the definition's own name
+    gives("(([a:int] [a:int] a 1) 2)", 2);
+    let text = "[FUN REC f int [f:int] 3; ECHO (f 1)]";
+    assert_eq!(Yardstick::new().run(text.as_bytes(), Limits::GREATEST).code, 0);
+}
