@@ -3,7 +3,7 @@
 use std::fs;
 use std::path::Path;
 
-use yardstick::MOST_BYTES;
+use yardstick::{MOST_BYTES, MOST_WORDS};
 
 pub struct Text {
     pub name: String,
@@ -64,13 +64,21 @@ fn long_tariff(most: usize) -> String {
     format!("{start}{functions}{end}")
 }
 
+/// As many statements as a text may have words for.
+fn sums() -> String {
+    const STATEMENT: &str = ";ECHO (add (mul 3 4) (sub 9 (div 8 2)))";
+    const ITS_WORDS: usize = 19;
+    const OTHER_WORDS: usize = 4;
+    format!("[ECHO 0{}]", STATEMENT.repeat((MOST_WORDS - OTHER_WORDS) / ITS_WORDS))
+}
+
 /// A tariff of this length has nearly as many words as a text may have.
 const LONG_TARIFF: usize = 11_500;
 
 pub fn usual_checks() -> Vec<Text> {
     let mut texts = tariffs();
     texts.push(made("a tariff of 11 KB", long_tariff(LONG_TARIFF)));
-    texts.push(made("4,094 words of sums", format!("[ECHO 0{}]", ";ECHO (add (mul 3 4) (sub 9 (div 8 2)))".repeat(215))));
+    texts.push(made("sums up to the limit of words", sums()));
     texts
 }
 

@@ -61,6 +61,9 @@ pub struct Word {
     pub info: u16,
 }
 
+/// So many names have room before the table of names grows.
+const NAMES_AT_FIRST: usize = 64;
+
 /// The words of a text, and an [`Kind::End`] behind them.
 #[derive(Default)]
 pub struct Words {
@@ -126,7 +129,7 @@ impl Words {
     pub fn read(&mut self, text: &[u8]) -> Result<(), Refusal> {
         self.words.clear();
         self.numbers.clear();
-        let mut symbols: HashMap<&[u8], u16, Quick> = HashMap::with_capacity_and_hasher(64, Quick::default());
+        let mut symbols: HashMap<&[u8], u16, Quick> = HashMap::with_capacity_and_hasher(NAMES_AT_FIRST, Quick::default());
         let mut start = 0;
         while start < text.len() {
             let refused = |code| Err(Refusal { code, place: start as u16 });
