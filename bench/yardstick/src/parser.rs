@@ -54,8 +54,7 @@ impl<'a> Parser<'a> {
         Ok(())
     }
 
-    /// Steps over a word of this kind, where it is one. By a branch: rustc 1.95 compiles `self.at += usize::from(is)` wrongly here from opt-level 2 on, as the
-    /// vectors show.
+    /// Steps over a word of this kind, where it is one.
     fn took(&mut self, kind: Kind) -> bool {
         if self.peek() != kind {
             return false;
