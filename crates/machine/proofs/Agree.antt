@@ -18,20 +18,22 @@ use Rattle.machine.specs.declared.Row.{Row}
 use Rattle.machine.specs.declared.Ending.{Ending}
 use Rattle.machine.specs.declared.Ending.the-variants.{Value, NoRule}
 use Rattle.machine.specs.declared.Ending.the-variants as E
-use Rattle.machine.specs.Entries.{pick, number-tag, address-tag, bindingAt}
+use Rattle.machine.specs.Entries.{pick, number-tag, address-tag, first-free, bindingAt}
 use Rattle.machine.specs.State.{Tables, Ret, is, andThen}
 use Rattle.machine.specs.Machine.{onBit}
-use Rattle.machine.specs.Leaves.{sameName, walk}
+use Rattle.nodes.specs.Trees.{place}
+use Rattle.machine.specs.Codes.{sameName, Spelled, Coded}
+use Rattle.machine.specs.Leaves.{walk}
 use Rattle.machine.proofs.Lists.{Asks, asks-yes, asks-no}
-use Rattle.machine.proofs.Relation.{Stage, Kept, Thing, Old, Rep, v-num, v-fun, v-rec, v-proc, v-proc-rec, v-adr, e-none, e-bound, ValR, EnvR, Found, found, lost, CellR, c-unset, c-set, Waits, w-none, w-more, R, Grow, Sim, goes, stops, no-way, Spent, Made, Some, Waiting, name-in}
+use Rattle.machine.proofs.Relation.{Stage, Kept, Thing, Old, Rep, v-num, v-fun, v-rec, v-proc, v-proc-rec, v-adr, e-none, e-bound, ValR, EnvR, Found, found, lost, CellR, c-unset, c-set, Waits, w-none, w-more, R, Grow, Sim, goes, stops, no-way, Spent, Made, Some, Waiting, code, name-in}
 
 less-one : (k : ℕ) → suc k - 1 ≡ k
 less-one k = omega arith
 
-walk-suc : (text b : List ℕ) (q n k : ℕ) → walk text b q (suc n) (suc k) ≡
-    pick (sameName text (bindingAt b k .place) q) (λ _. Value (bindingAt b k .tag) (bindingAt b k .word)) λ _. walk text b q n (bindingAt b k .link)
+walk-suc : (b : List ℕ) (c n k : ℕ) → walk b c (suc n) (suc k) ≡
+    pick (eqb (bindingAt b k .name) c) (λ _. Value (bindingAt b k .tag) (bindingAt b k .word)) λ _. walk b c n (bindingAt b k .link)
 unfolding walk pick
-walk-suc text b q n k = rw (eqb·suc-zero k, less-one k)
+walk-suc b c n k = rw (eqb·suc-zero k, less-one k)
 
 pub bind-ok : {A B : Type 0} (a : A) (s : State) (k : A → State → Outcome B) → bind (ok a s) k ≡ k a s
 unfolding bind
@@ -51,13 +53,13 @@ module _ {g : Stage} where
   pub keep : {b b′ : List ℕ} {c c′ : ℕ} {x : Thing} → Rep g b c x → c ≤ c′ → Old b c b′ → Rep g b′ c′ x
   keep (v-num x) h o = v-num x
   keep (v-fun p e n) h o = v-fun p e (keep n h o)
-  keep (v-rec p e n) h o = v-rec p e (keep n h o)
+  keep (v-rec a p e n) h o = v-rec a p e (keep n h o)
   keep (v-proc p e n) h o = v-proc p e (keep n h o)
-  keep (v-proc-rec p e n) h o = v-proc-rec p e (keep n h o)
+  keep (v-proc-rec a p e n) h o = v-proc-rec a p e (keep n h o)
   keep v-adr h o = v-adr
   keep e-none h o = e-none
-  keep (e-bound {k = k} l e u n) h o =
-      e-bound (le-trans l h) (o k l ∙ e) (keep u (le-refl _) (λ j s. o j (le-trans s (omega arith))))
+  keep (e-bound {k = k} a l e u n) h o =
+      e-bound a (le-trans l h) (o k l ∙ e) (keep u (le-refl _) (λ j s. o j (le-trans s (omega arith))))
       (keep n (le-refl _) (λ j s. o j (le-trans s (omega arith))))
 
   pub cell-keep : {b b′ : List ℕ} {c c′ : ℕ} {o : Option Val} {r : Row} → CellR g b c o r → c ≤ c′ → Old b c b′ → CellR g b′ c′ o r
@@ -71,14 +73,14 @@ module _ {g : Stage} where
   -- an environment's number is at most the number of bindings
   pub env-in : {b : List ℕ} {c n : ℕ} {ρ : Env} → EnvR g b c ρ n → n ≤ c
   env-in e-none = omega arith
-  env-in (e-bound l e u n) = l
+  env-in (e-bound a l e u n) = l
 
   pub tag-small : {b : List ℕ} {c t x : ℕ} {u : Val} → ValR g b c u t x → t < 65536
   tag-small (v-num x) = omega arith
   tag-small (v-fun p e n) = omega arith
-  tag-small (v-rec p e n) = omega arith
+  tag-small (v-rec a p e n) = omega arith
   tag-small (v-proc p e n) = omega arith
-  tag-small (v-proc-rec p e n) = omega arith
+  tag-small (v-proc-rec a p e n) = omega arith
   tag-small v-adr = omega arith
 
   -- ---- the chain of bindings is the rules' environment
@@ -93,15 +95,16 @@ module _ {g : Stage} where
   found-pick true u h = found u
   found-pick false u h = h
 
-  pub walk-finds : {b : List ℕ} {c : ℕ} {ρ : Env} {e : ℕ} → EnvR g b c ρ e → (q n : ℕ) → c ≤ n →
-      Found g b c (lookup-env ρ (name-in g q)) (walk (g.script .text) b q n e)
+  pub walk-finds : Coded g.script g.codes → {b : List ℕ} {c : ℕ} {ρ : Env} {e : ℕ} → EnvR g b c ρ e → {q : ℕ} → Spelled g.script q → first-free ≤ code g q → (n : ℕ) → c ≤ n →
+      Found g b c (lookup-env ρ (name-in g (place g.script q))) (walk b (code g q) n e)
   unfolding walk pick sameName
-  walk-finds e-none q zero h = lost
-  walk-finds e-none q (suc n) h = lost
-  walk-finds (e-bound l e u m) q zero h = absurd (not-suc-le-zero (le-trans l h))
-  walk-finds {b} (e-bound {k = k} {p = z} l e u m) q (suc n) h =
-      rw (walk-suc (g.script .text) b q n k, e)
-      (found-pick (sameName (g.script .text) z q) (keep u (omega arith) (λ j s. refl)) (found-up (omega arith) (walk-finds m q n (omega arith))))
+  walk-finds d e-none z f zero h = lost
+  walk-finds d e-none z f (suc n) h = lost
+  walk-finds d (e-bound a l e u m) z f zero h = absurd (not-suc-le-zero (le-trans l h))
+  walk-finds d {b} (e-bound {k = k} {i = i} a l e u m) {q} z f (suc n) h =
+      rw (walk-suc b (code g q) n k, e, d .same a z f)
+      (found-pick (sameName (g.script .text) (place g.script i) (place g.script q)) (keep u (omega arith) (λ j s. refl))
+      (found-up (omega arith) (walk-finds d m z f n (omega arith))))
 
   -- ---- states that go on
 
@@ -279,17 +282,17 @@ module _ {g : Stage} where
   pub asks-num : {b : List ℕ} {c t x : ℕ} {u : Val} → ValR g b c u t x → Asks (λ z. z ≡ toZ w64 x) (as-number u) (eqb t number-tag)
   asks-num (v-num x) = asks-yes refl
   asks-num (v-fun p e n) = asks-no
-  asks-num (v-rec p e n) = asks-no
+  asks-num (v-rec a p e n) = asks-no
   asks-num (v-proc p e n) = asks-no
-  asks-num (v-proc-rec p e n) = asks-no
+  asks-num (v-proc-rec a p e n) = asks-no
   asks-num v-adr = asks-no
 
   pub asks-address : {b : List ℕ} {c t x : ℕ} {u : Val} → ValR g b c u t x → Asks (λ a. a ≡ x) (as-address u) (eqb t address-tag)
   asks-address (v-num x) = asks-no
   asks-address (v-fun p e n) = asks-no
-  asks-address (v-rec p e n) = asks-no
+  asks-address (v-rec a p e n) = asks-no
   asks-address (v-proc p e n) = asks-no
-  asks-address (v-proc-rec p e n) = asks-no
+  asks-address (v-proc-rec a p e n) = asks-no
   asks-address v-adr = asks-yes refl
 
 -- a word of 2 and more is no bit
@@ -312,7 +315,7 @@ module _ {g : Stage} {B : Type 0} {P : B → (t x : ℕ) → Tables → Type 0} 
   unfolding need pick onBit
   sim-bit p (v-num x) s h k = word-bit x p s h k
   sim-bit p (v-fun q e n) s h k = no-way s
-  sim-bit p (v-rec q e n) s h k = no-way s
+  sim-bit p (v-rec a q e n) s h k = no-way s
   sim-bit p (v-proc q e n) s h k = no-way s
-  sim-bit p (v-proc-rec q e n) s h k = no-way s
+  sim-bit p (v-proc-rec a q e n) s h k = no-way s
   sim-bit p v-adr s h k = no-way s

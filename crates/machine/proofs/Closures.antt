@@ -8,6 +8,7 @@ use Rattle.language.specs.Types.{param-names}
 use Rattle.language.specs.Rules.{inF, inFR, inP, inPR, Env, State}
 use Rattle.nodes.specs.Trees.{place, next, AtParams, AtE, AtB}
 use Rattle.machine.specs.Entries.{function-tag, recursive-function-tag, procedure-tag, recursive-procedure-tag, closureWord, nodeOf, envOf}
+use Rattle.machine.specs.Codes.{Spelled}
 use Rattle.machine.specs.State.{Tables}
 use Rattle.machine.proofs.Entries.{closure-node, closure-env}
 use Rattle.machine.proofs.Relation.{Stage, v-fun, v-rec, v-proc, v-proc-rec, ValR, R, Named, IsVal, name-in}
@@ -30,18 +31,20 @@ module _ {g : Stage} {ρ : Env} {env : ℕ} {s : State} {m : Tables} (e : Named 
     procedure-value p a = let q : AtParams g.script (nodeOf (closureWord i env)) xs j = rw (closure-node i env l) p in v-proc q a (kept-env i)
 
     -- of the name at the node i
-    pub recursive-function-value : {b : Expr} → AtParams g.script (next g.script (next g.script i)) xs j → AtE g.script j b →
+    pub recursive-function-value : {b : Expr} → Spelled g.script i → AtParams g.script (next g.script (next g.script i)) xs j → AtE g.script j b →
         ValR g (m .bindings) (m .counts .bindings) (inFR b (name-in g (place g.script i)) (param-names xs) ρ) recursive-function-tag (closureWord i env)
-    recursive-function-value {b} p a =
+    recursive-function-value {b} n p a =
+        let z : Spelled g.script (nodeOf (closureWord i env)) = rw (closure-node i env l) n in
         let q : AtParams g.script (next g.script (next g.script (nodeOf (closureWord i env)))) xs j = rw (closure-node i env l) p in
         subst (λ (k : ℕ). ValR g (m .bindings) (m .counts .bindings) (inFR b (name-in g (place g.script k)) (param-names xs) ρ)
         recursive-function-tag (closureWord i env))
-        (closure-node i env l) (v-rec q a (kept-env i))
+        (closure-node i env l) (v-rec z q a (kept-env i))
 
-    pub recursive-procedure-value : {b : Block} → AtParams g.script (next g.script i) xs j → AtB g.script j b →
+    pub recursive-procedure-value : {b : Block} → Spelled g.script i → AtParams g.script (next g.script i) xs j → AtB g.script j b →
         ValR g (m .bindings) (m .counts .bindings) (inPR b (name-in g (place g.script i)) (param-names xs) ρ) recursive-procedure-tag (closureWord i env)
-    recursive-procedure-value {b} p a =
+    recursive-procedure-value {b} n p a =
+        let z : Spelled g.script (nodeOf (closureWord i env)) = rw (closure-node i env l) n in
         let q : AtParams g.script (next g.script (nodeOf (closureWord i env))) xs j = rw (closure-node i env l) p in
         subst (λ (k : ℕ). ValR g (m .bindings) (m .counts .bindings) (inPR b (name-in g (place g.script k)) (param-names xs) ρ)
         recursive-procedure-tag (closureWord i env))
-        (closure-node i env l) (v-proc-rec q a (kept-env i))
+        (closure-node i env l) (v-proc-rec z q a (kept-env i))

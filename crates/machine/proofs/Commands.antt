@@ -13,10 +13,11 @@ use Rattle.language.specs.Rules.{Val, Env, bound, State, Outcome, ok, make, Lev
 use Rattle.language.specs.Rules as Rules
 use Rattle.nodes.specs.Trees.{kind, place, child, next, ident, AtE, AtAs, AtD, at-const, at-fun, at-fun-rec, at-var, at-proc, at-proc-rec, AtS, at-echo, at-set, at-if-stat, at-while, at-call, AtB, at-block}
 use Rattle.machine.specs.Entries.{pick}
+use Rattle.machine.specs.Codes.{Spelled, by-name}
 use Rattle.machine.specs.State.{Tables}
 use Rattle.machine.specs.Leaves.{define, defineCell}
 use Rattle.machine.specs.Machine.{Evaluators, constC, echoC, setC, blockC, ifC, callC, rounds, cmdBy, cmdIn}
-use Rattle.machine.proofs.Entries.{place-small, child-small, next-small}
+use Rattle.machine.proofs.Entries.{child-small, next-small}
 use Rattle.machine.proofs.Lists.{asks-stored, room-one}
 use Rattle.machine.proofs.Relation.{Stage, run-of, slot, v-adr, R, Sim, goes, Spent, IsEnv, IsDone, Here, Adeq, Named, IsVal, node, name-in}
 use Rattle.machine.proofs.Agree.{keep, grow-self, sim-lift, relax, making, sim-within, sim-bind, sim-call, sim-end, sim-need, asks-num, sim-bit}
@@ -30,36 +31,35 @@ use Rattle.machine.proofs.Expressions.{onward, inside, all-args}
 module _ {g : Stage} where
   -- ---- definitions
 
-  -- one binding, of the name at q
-  define-sim : (p q : ℕ) {ρ : Env} {u : Val} {t x env sp : ℕ} {s : State} {m : Tables} → q < 65536 → IsVal g u t x m →
+  -- one binding, of the name i
+  define-sim : (p : ℕ) {i : ℕ} {ρ : Env} {u : Val} {t x env sp : ℕ} {s : State} {m : Tables} → Spelled g.script i → IsVal g u t x m →
       Named g ρ env m → R g s m →
-      Sim g (IsEnv g) sp m (make g.limits 1 p s λ s₁. ok (bound (name-in g q) u ρ) s₁) (define (run-of g) p q t x env m)
+      Sim g (IsEnv g) sp m (make g.limits 1 p s λ s₁. ok (bound (name-in g (place g.script i)) u ρ) s₁) (define (run-of g) p i t x env m)
   unfolding define
-  define-sim p q {m = m} h v n r =
+  define-sim p {m = m} h v n r =
       sim-within _ _ _ _ (room-one _ _ (g.limits .bindings) (r .bindings)) r λ e.
       let c : suc (m .counts .bindings) ≤ g.limits .bindings = leb→le _ _ (room-one _ _ (g.limits .bindings) (r .bindings) .0 e) in
-      goes (env-more q _ v n (omega (arith, r .roomy .bindings-fit, r .bindings-kept .long)) (omega (arith, r .roomy .few-bindings)) h (omega arith))
+      goes (env-more (r .roomy .coded) h _ v n (omega (arith, r .roomy .bindings-fit, r .bindings-kept .long)) (omega (arith, r .roomy .few-bindings)) (omega arith))
       (r-bind r 1 _ (old-more _ _ _) (kept-binding _ _ _ (omega arith)) (omega arith))
       (record { more = omega arith; old = old-more _ _ _; waits = λ k s h. refl; fell = le-refl _ })
 
-  var-sim : (l : Level) (i : ℕ) (y : TypeTree) {ρ : Env} {env sp : ℕ} {s : State} {m : Tables} → Named g ρ env m → R g s m →
+  var-sim : (l : Level) (i : ℕ) (y : TypeTree) {ρ : Env} {env sp : ℕ} {s : State} {m : Tables} → Spelled g.script (child g.script i) → Named g ρ env m → R g s m →
       Sim g (IsEnv g) sp m (def-rule g.limits l (var (place g.script i) (ident g.script (child g.script i)) y) ρ s)
-      (defineCell (run-of g) (place g.script i) (place g.script (child g.script i)) env m)
+      (defineCell (run-of g) (place g.script i) (child g.script i) env m)
   unfolding defineCell
-  var-sim l i y n r =
+  var-sim l i y h n r =
       rw (r .cells) (sim-within _ _ _ _ (λ h. h, λ h. h) r λ e.
       sim-lift (record { more = le-refl _; old = λ k h. refl; waits = λ k s h. refl; fell = le-refl _ })
-      (define-sim _ _ (place-small (g.script .tree) (child g.script i)) v-adr n (r-cell r (ltb→lt _ _ e))))
+      (define-sim _ h v-adr n (r-cell r (ltb→lt _ _ e))))
 
   module _ {l : Level} {S : Evaluators} (h : Adeq g l S) where
-    const-sim : (i : ℕ) (y : TypeTree) {e : Expr} {ρ : Env} {env sp : ℕ} {s : State} {m : Tables} →
+    const-sim : (i : ℕ) (y : TypeTree) {e : Expr} {ρ : Env} {env sp : ℕ} {s : State} {m : Tables} → Spelled g.script (child g.script i) →
         AtE g.script (next g.script (next g.script (child g.script i))) e → Here g ρ env s m →
         Sim g (IsEnv g) sp m (def-rule g.limits l (const (place g.script i) (ident g.script (child g.script i)) y e) ρ s)
         (constC (run-of g) S env (slot sp) (node g i) m)
     unfolding constC
-    const-sim i y a x =
-        sim-bind (h .onE a x) λ u s₁ t z m₁ v r₁ gr. define-sim _ _ (place-small (g.script .tree) (child g.script i)) (v .it)
-        (onward x r₁ gr .names′) r₁
+    const-sim i y n a x =
+        sim-bind (h .onE a x) λ u s₁ t z m₁ v r₁ gr. define-sim _ n (v .it) (onward x r₁ gr .names′) r₁
 
     -- ---- statements
 
@@ -71,13 +71,13 @@ module _ {g : Stage} where
         rw (e, r₁ .numbers) (sim-within _ _ _ _ (λ h. h, λ h. h) r₁ λ c.
         goes refl (r-put-out r₁ _ (ltb→lt _ _ c)) (record { more = le-refl _; old = λ k h. refl; waits = λ k s h. refl; fell = le-refl _ }))
 
-    set-sim : (i : ℕ) {e : Expr} {ρ : Env} {env sp : ℕ} {s : State} {m : Tables} → AtE g.script (next g.script (child g.script i)) e →
+    set-sim : (i : ℕ) {e : Expr} {ρ : Env} {env sp : ℕ} {s : State} {m : Tables} → Spelled g.script (child g.script i) → AtE g.script (next g.script (child g.script i)) e →
         Here g ρ env s m →
         Sim g (IsDone env) sp m (stat-rule g.limits l (Syntax.set (place g.script i) (ident g.script (child g.script i)) e) ρ s)
         (setC (run-of g) S env (slot sp) (node g i) m)
     unfolding setC
-    set-sim i a x =
-        sim-address _ _ _ (x .names′) (x .st) λ c.
+    set-sim i n a x =
+        sim-address _ _ n (x .names′) (x .st) λ c.
         sim-bind (h .onE a x) λ u s₁ t y m₁ v r₁ gr. sim-need _ (asks-stored (s₁ .cells) c _ u (r₁ .cells)) r₁ λ cs q.
         goes refl (r-store r₁ c t y u cs q (v .it)) (record { more = le-refl _; old = λ k h. refl; waits = λ k s h. refl; fell = le-refl _ })
 
@@ -97,13 +97,13 @@ module _ {g : Stage} where
     if-stat-sim i {env = env} e a b x =
         sim-bind (h .onE e x) λ u s₁ t y m₁ v r₁ gr. sim-bit _ (v .it) r₁ (block-sim env a (onward x r₁ gr)) (block-sim env b (onward x r₁ gr))
 
-    call-stat-sim : (i : ℕ) {es : List ExprP} {ρ : Env} {env sp : ℕ} {s : State} {m : Tables} → AtAs g.script (next g.script (child g.script i)) es →
+    call-stat-sim : (i : ℕ) {es : List ExprP} {ρ : Env} {env sp : ℕ} {s : State} {m : Tables} → Spelled g.script (child g.script i) → AtAs g.script (next g.script (child g.script i)) es →
         Here g ρ env s m →
         Sim g (IsDone env) sp m (stat-rule g.limits l (call (place g.script i) (ident g.script (child g.script i)) es) ρ s)
         (callC (run-of g) S env (slot sp) (node g i) m)
     unfolding callC
-    call-stat-sim i {env = env} {sp = sp} a x =
-        sim-look _ _ _ (x .names′) (x .st) λ u t y v.
+    call-stat-sim i {env = env} {sp = sp} z a x =
+        sim-look _ _ z (x .names′) (x .st) λ u t y v.
         sim-call (all-args h sp a x) λ us s₁ k n m₁ q r₁ gr.
         sim-open (open-procedure u us) _ s₁ (λ c s₂. in-block l (c .body) (c .env) s₂) (procedure-sim _ k n (keep v (gr .more) (gr .old)) q r₁)
         λ c s₂ env₁ j m₂ b r₂ gr₂.
@@ -139,29 +139,29 @@ module _ {g : Stage} where
         Sim g (Spent g m (IsEnv g)) sp m (Rules.enter g.limits (place-def c) s λ s₁. def-rule g.limits l c ρ s₁)
         (cmdIn (run-of g) (kind g.script i) (suc d) S env (slot sp) (node g i) m)
     unfolding cmdIn cmdBy pick
-    def-sim {m = m} (at-const {t = y} k n a e z) x = cmd-kind 2 _ _ (k .kind-is) (sim-guard d _ _ (x .st) λ r. const-sim h _ y e (inside x r))
+    def-sim {m = m} (at-const {t = y} k n a e z) x = cmd-kind 2 _ _ (k .kind-is) (sim-guard d _ _ (x .st) λ r. const-sim h _ y (by-name (n .kind-is)) e (inside x r))
     def-sim {m = m} (at-fun {i = i} k n a ps e z) x =
-        cmd-kind 3 _ _ (k .kind-is) (sim-guard d _ _ (x .st) λ r. define-sim _ _ (place-small (g.script .tree) (child g.script i))
+        cmd-kind 3 _ _ (k .kind-is) (sim-guard d _ _ (x .st) λ r. define-sim _ (by-name (n .kind-is))
         (function-value (x .names′) r _ (next-small (g.script .tree) (next g.script (child g.script i))) ps e) (x .names′) r)
     def-sim {m = m} (at-fun-rec {i = i} k n a ps e z) x =
-        cmd-kind 4 _ _ (k .kind-is) (sim-guard d _ _ (x .st) λ r. define-sim _ _ (place-small (g.script .tree) (child g.script i))
-        (recursive-function-value (x .names′) r _ (child-small (g.script .tree) i) ps e) (x .names′) r)
-    def-sim {m = m} (at-var {t = y} k n a z) x = cmd-kind 5 _ _ (k .kind-is) (sim-guard d _ _ (x .st) λ r. var-sim l _ y (x .names′) r)
+        cmd-kind 4 _ _ (k .kind-is) (sim-guard d _ _ (x .st) λ r. define-sim _ (by-name (n .kind-is))
+        (recursive-function-value (x .names′) r _ (child-small (g.script .tree) i) (by-name (n .kind-is)) ps e) (x .names′) r)
+    def-sim {m = m} (at-var {t = y} k n a z) x = cmd-kind 5 _ _ (k .kind-is) (sim-guard d _ _ (x .st) λ r. var-sim l _ y (by-name (n .kind-is)) (x .names′) r)
     def-sim {m = m} (at-proc {i = i} k n ps y b z) x =
-        cmd-kind 6 _ _ (k .kind-is) (sim-guard d _ _ (x .st) λ r. define-sim _ _ (place-small (g.script .tree) (child g.script i))
+        cmd-kind 6 _ _ (k .kind-is) (sim-guard d _ _ (x .st) λ r. define-sim _ (by-name (n .kind-is))
         (procedure-value (x .names′) r _ (next-small (g.script .tree) (child g.script i)) ps b) (x .names′) r)
     def-sim {m = m} (at-proc-rec {i = i} k n ps y b z) x =
-        cmd-kind 7 _ _ (k .kind-is) (sim-guard d _ _ (x .st) λ r. define-sim _ _ (place-small (g.script .tree) (child g.script i))
-        (recursive-procedure-value (x .names′) r _ (child-small (g.script .tree) i) ps b) (x .names′) r)
+        cmd-kind 7 _ _ (k .kind-is) (sim-guard d _ _ (x .st) λ r. define-sim _ (by-name (n .kind-is))
+        (recursive-procedure-value (x .names′) r _ (child-small (g.script .tree) i) (by-name (n .kind-is)) ps b) (x .names′) r)
 
     pub stat-sim : {i : ℕ} {c : Stat} {ρ : Env} {env sp : ℕ} {s : State} {m : Tables} → AtS g.script i c → Here g ρ env s m →
         Sim g (Spent g m (IsDone env)) sp m (Rules.enter g.limits (place-stat c) s λ s₁. stat-rule g.limits l c ρ s₁)
         (cmdIn (run-of g) (kind g.script i) (suc d) S env (slot sp) (node g i) m)
     unfolding cmdIn cmdBy pick
     stat-sim {m = m} (at-echo k e z) x = cmd-kind 8 _ _ (k .kind-is) (sim-guard d _ _ (x .st) λ r. echo-sim h _ e (inside x r))
-    stat-sim {m = m} (at-set k n e z) x = cmd-kind 9 _ _ (k .kind-is) (sim-guard d _ _ (x .st) λ r. set-sim h _ e (inside x r))
+    stat-sim {m = m} (at-set k n e z) x = cmd-kind 9 _ _ (k .kind-is) (sim-guard d _ _ (x .st) λ r. set-sim h _ (by-name (n .kind-is)) e (inside x r))
     stat-sim {m = m} (at-if-stat k e y a y′ b z) x =
         cmd-kind 10 _ _ (k .kind-is) (sim-guard d _ _ (x .st) λ r. if-stat-sim h _ e a b (inside x r))
     stat-sim {m = m} (at-while k e y b z) x =
         cmd-kind 11 _ _ (k .kind-is) (rounds-sim _ (suc (g.limits .fuel)) (suc (m .counts .units)) e b x (omega (arith, x .st .units)) (le-refl _))
-    stat-sim {m = m} (at-call k n as′) x = cmd-kind 12 _ _ (k .kind-is) (sim-guard d _ _ (x .st) λ r. call-stat-sim h _ as′ (inside x r))
+    stat-sim {m = m} (at-call k n as′) x = cmd-kind 12 _ _ (k .kind-is) (sim-guard d _ _ (x .st) λ r. call-stat-sim h _ (by-name (n .kind-is)) as′ (inside x r))

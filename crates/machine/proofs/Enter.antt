@@ -7,7 +7,7 @@ use Prim.Native.Nat.{ℕ, zero, suc, _+_, _*_, _≤_, _<_}
 use native.Mathlib.Nat.{le-refl}
 use native.Mathlib.Omega.{arith}
 use lib.Dec.{T, eqb, leb, leb→le, eqb→eq}
-use lib.ListN.{length}
+use lib.ListN.{length, getD}
 use Rattle.language.specs.Syntax.{ArgP}
 use Rattle.language.specs.Answers.{LimitStop, BINDINGS}
 use Rattle.language.specs.Types.{param-names}
@@ -22,11 +22,12 @@ use Rattle.machine.specs.declared.Ending.{Ending}
 use Rattle.machine.specs.declared.Ending.the-variants.{Value, NoRule}
 use Rattle.machine.specs.declared.Ending.the-variants as E
 use Rattle.machine.specs.Entries.{pick, ring-rows, rowAfter, row, rowAt, binding, putBinding, nodeOf, envOf}
+use Rattle.machine.specs.Codes.{Spelled, by-param, by-var-param, Coded}
 use Rattle.machine.specs.State.{Tables, Ret, is, andThen, bind}
 use Rattle.machine.specs.Leaves.{isParam, bodyAfter, bindAll, enter, enterAgain, openFunction, openProcedure}
 use Rattle.machine.proofs.Entries.{binding-own, binding-length, binding-beyond, place-small}
 use Rattle.machine.proofs.Lists.{room-is}
-use Rattle.machine.proofs.Relation.{Stage, run-of, slot, Kept, Old, v-num, v-fun, v-rec, v-proc, v-proc-rec, v-adr, e-bound, ValR, EnvR, Waits, w-none, w-more, R, Grow, Sim, goes, no-way, Made, Waiting, IsEntered, Zip, z-none, z-more, Fit, fit, unfit, Bound, Named, Wait, IsVal, node, name-in}
+use Rattle.machine.proofs.Relation.{Stage, run-of, slot, Kept, Old, v-num, v-fun, v-rec, v-proc, v-proc-rec, v-adr, e-bound, ValR, EnvR, Waits, w-none, w-more, R, Grow, Sim, goes, no-way, Made, Waiting, IsEntered, Zip, z-none, z-more, Fit, fit, unfit, Bound, Named, Wait, IsVal, node, code, name-in}
 use Rattle.machine.proofs.Agree.{kept-self, kept-then, keep, waits-keep, env-in, tag-small, sim-within, sim-bind}
 use Rattle.machine.proofs.States.{old-more, r-bind}
 
@@ -54,12 +55,13 @@ unfolding isParam pick
 var-param = refl
 
 -- the first of some parameters is bound
-bind-first : (tree : List ℕ) (n q sp : ℕ) (w : List ℕ) (k env : ℕ) (b : List ℕ) (t x : ℕ) → rowAt w sp ≡ row t x →
-    bindAll tree (suc n) q sp w k env b ≡
-    bindAll tree n (nodeAt tree q .next) (rowAfter sp) w (suc k) (suc k) (putBinding b k (binding (nodeAt tree q .place) t x env))
+bind-first : (tree codes : List ℕ) (n q sp : ℕ) (w : List ℕ) (k env : ℕ) (b : List ℕ) (t x : ℕ) → rowAt w sp ≡ row t x →
+    bindAll tree codes (suc n) q sp w k env b ≡
+    bindAll tree codes n (nodeAt tree q .next) (rowAfter sp) w (suc k) (suc k) (putBinding b k (binding (nodeAt tree q .place) (getD codes q 0) t x env))
 unfolding bindAll
-bind-first tree n q sp w k env b t x e =
-    ap (λ (r : Row). bindAll tree n (nodeAt tree q .next) (rowAfter sp) w (suc k) (suc k) (putBinding b k (binding (nodeAt tree q .place) (r .tag) (r .word) env))) e
+bind-first tree codes n q sp w k env b t x e =
+    ap (λ (r : Row). bindAll tree codes n (nodeAt tree q .next) (rowAfter sp) w (suc k) (suc k)
+    (putBinding b k (binding (nodeAt tree q .place) (getD codes q 0) (r .tag) (r .word) env))) e
 
 -- the row behind a value's
 pub after-slot : (k : ℕ) → rowAfter (slot k) ≡ slot (suc k)
@@ -74,9 +76,9 @@ kept-binding {r} b c x h = record { long = binding-length b c x; beyond = bindin
 
 module _ {g : Stage} where
   fit-more : {q : ℕ} {u : Val} {us : List Val} {ρ : Env} {i n : ℕ} {o : Option Env} {e : Ending} →
-      Fit g (next g.script q) us (bound (name-in g (place g.script q)) u ρ) i n o e → Fit g q (u ∷ us) ρ i (suc n) o e
-  fit-more (fit z e) = fit (z-more z) (ap suc e)
-  fit-more unfit = unfit
+      Spelled g.script q → Fit g (next g.script q) us (bound (name-in g (place g.script q)) u ρ) i n o e → Fit g q (u ∷ us) ρ i (suc n) o e
+  fit-more a (fit z e) = fit (z-more a z) (ap suc e)
+  fit-more a unfit = unfit
 
   fit-is : {q i : ℕ} {xs : List ArgP} → AtParams g.script q xs i → (us : List Val) (ρ : Env) →
       Fit g q us ρ i (length (param-names xs)) (bind-all (param-names xs) us ρ) (bodyAfter (g.script .tree) (length us) q)
@@ -85,28 +87,28 @@ module _ {g : Stage} where
   fit-is (at-no-param b c) (u ∷ us) ρ = rw (not-param _ b c, pick) unfit
   fit-is (at-more-params (at-val-param k t e) b) [] ρ = rw (a-param 13 _ val-param (k .kind-is), pick) unfit
   fit-is (at-more-params (at-var-param k t e) b) [] ρ = rw (a-param 14 _ var-param (k .kind-is), pick) unfit
-  fit-is (at-more-params (at-val-param k t e) b) (u ∷ us) ρ = rw (a-param 13 _ val-param (k .kind-is), pick) (fit-more (fit-is b us _))
-  fit-is (at-more-params (at-var-param k t e) b) (u ∷ us) ρ = rw (a-param 14 _ var-param (k .kind-is), pick) (fit-more (fit-is b us _))
+  fit-is (at-more-params (at-val-param k t e) b) (u ∷ us) ρ = rw (a-param 13 _ val-param (k .kind-is), pick) (fit-more (by-param (k .kind-is)) (fit-is b us _))
+  fit-is (at-more-params (at-var-param k t e) b) (u ∷ us) ρ = rw (a-param 14 _ var-param (k .kind-is), pick) (fit-more (by-var-param (k .kind-is)) (fit-is b us _))
 
   -- ---- bindings are made
 
-  pub env-more : {b : List ℕ} {c env t x : ℕ} {ρ : Env} {u : Val} (p n : ℕ) → ValR g b c u t x → EnvR g b c ρ env → 2 * suc c ≤ length b → c < 4096 →
-      p < 65536 → suc c ≤ n →
-      EnvR g (putBinding b c (binding p t x env)) n (bound (name-in g p) u ρ) (suc c)
-  env-more {c = c} {env = env} p n u e l h s k =
+  pub env-more : {b : List ℕ} {c env t x i : ℕ} {ρ : Env} {u : Val} → Coded g.script g.codes → Spelled g.script i → (n : ℕ) → ValR g b c u t x → EnvR g b c ρ env →
+      2 * suc c ≤ length b → c < 4096 → suc c ≤ n →
+      EnvR g (putBinding b c (binding (place g.script i) (code g i) t x env)) n (bound (name-in g (place g.script i)) u ρ) (suc c)
+  env-more {c = c} {env = env} {i = i} d a n u e l h k =
       let v : env ≤ c = env-in e in
-      e-bound k (binding-own _ _ _ (omega arith) l s (tag-small u) (omega arith)) (keep u (le-refl _) (old-more _ _ _)) (keep e (le-refl _) (old-more _ _ _))
+      e-bound a k (binding-own _ _ _ (omega arith) l (place-small (g.script .tree) i) (d .small a) (tag-small u) (omega arith)) (keep u (le-refl _) (old-more _ _ _)) (keep e (le-refl _) (old-more _ _ _))
 
-  bind-each : {q i : ℕ} {us : List Val} {ρ ρ′ : Env} → Zip g q us ρ ρ′ i → {b w : List ℕ} {c sp env : ℕ} (n r : ℕ) → Waits g b c w sp us → EnvR g b c ρ env →
-      length us + c ≡ n → 2 * n ≤ length b → n ≤ 4096 → 2 * n ≤ r → Bound g b c n r ρ′ (bindAll (g.script .tree) (length us) q (slot sp) w c env b)
+  bind-each : Coded g.script g.codes → {q i : ℕ} {us : List Val} {ρ ρ′ : Env} → Zip g q us ρ ρ′ i → {b w : List ℕ} {c sp env : ℕ} (n r : ℕ) → Waits g b c w sp us → EnvR g b c ρ env →
+      length us + c ≡ n → 2 * n ≤ length b → n ≤ 4096 → 2 * n ≤ r → Bound g b c n r ρ′ (bindAll (g.script .tree) g.codes (length us) q (slot sp) w c env b)
   unfolding bindAll
-  bind-each z-none n r w-none e h l m k = record { env′ = keep e (omega arith) (λ j s. refl); old = λ j s. refl; kept = kept-self }
-  bind-each (z-more {q = q} {us = us} z) {b} {w} {c} {sp} {env} n r (w-more {t = t} {x = x} e₀ u ws) e h l m k =
-      let y : Binding = binding (place g.script q) t x env in
-      let more = bind-each z n r (waits-keep ws (omega arith) (old-more b c y))
-      (env-more (place g.script q) (suc c) u e (omega arith) (omega arith) (place-small (g.script .tree) q) (le-refl _))
+  bind-each d z-none n r w-none e h l m k = record { env′ = keep e (omega arith) (λ j s. refl); old = λ j s. refl; kept = kept-self }
+  bind-each d (z-more {q = q} {us = us} a z) {b} {w} {c} {sp} {env} n r (w-more {t = t} {x = x} e₀ u ws) e h l m k =
+      let y : Binding = binding (place g.script q) (code g q) t x env in
+      let more = bind-each d z n r (waits-keep ws (omega arith) (old-more b c y))
+      (env-more d a (suc c) u e (omega arith) (omega arith) (le-refl _))
       (omega arith) (omega (arith, binding-length b c y)) m k in
-      rw (bind-first (g.script .tree) (length us) q (slot sp) w c env b t x e₀, after-slot sp)
+      rw (bind-first (g.script .tree) g.codes (length us) q (slot sp) w c env b t x e₀, after-slot sp)
       (record {
         env′ = more .env′;
         old = λ j s. more .old j (omega arith) ∙ old-more b c y j s;
@@ -118,7 +120,7 @@ module _ {g : Stage} where
         Fit g q us ρ i n′ o e → At i body → (length us + m .counts .bindings ≤ ring-rows → Wait g sp us m) → Named g ρ env m → R g s m →
         Sim g (Made g (length us) m (IsEntered g At)) sp m (need (entering body n′ o) p s λ c. make g.limits (c .count) p s λ s₁. ok c s₁)
         (andThen (is e m) λ _ i m. pick (leb (length us + m .counts .bindings) (g.limits .bindings)) (λ _.
-        let o = bindAll (g.script .tree) (length us) q (slot sp) (m .waiting) (m .counts .bindings) env (m .bindings) in
+        let o = bindAll (g.script .tree) g.codes (length us) q (slot sp) (m .waiting) (m .counts .bindings) env (m .bindings) in
         is (Value (o .env) i) (bind (length us) (o .bindings) m))
         λ _. is (E.Stop 23 p) m)
     unfolding need andThen
@@ -126,36 +128,36 @@ module _ {g : Stage} where
     enter-fit {us = us} p body {sp = sp} {m = m} (fit z e′) a w e r =
         rw e′ (sim-within _ _ _ _ (room-is (length us) _ _ (g.limits .bindings) (r .bindings)) r λ h.
         let l : length us + m .counts .bindings ≤ g.limits .bindings = leb→le _ _ (room-is (length us) _ _ (g.limits .bindings) (r .bindings) .0 h) in
-        let x = bind-each z (length us + m .counts .bindings) (2 * g.limits .bindings) (w (omega (arith, r .roomy .few-bindings))) e refl
+        let x = bind-each (r .roomy .coded) z (length us + m .counts .bindings) (2 * g.limits .bindings) (w (omega (arith, r .roomy .few-bindings))) e refl
         (omega (arith, r .roomy .bindings-fit, r .bindings-kept .long)) (omega (arith, r .roomy .few-bindings)) (omega arith) in
         goes (record { it = record { in-env = x .env′; body-at = a }; made = omega arith }) (r-bind r (length us) _ (x .old) (x .kept) l)
         (record { more = omega arith; old = x .old; waits = λ k s h. refl; fell = le-refl _ }))
 
     again-fit : {q i n′ : ℕ} {us : List Val} {u : Val} {ρ : Env} {o : Option Env} {e : Ending} (p t x : ℕ) (body : B) {sp : ℕ} {s : State} {m : Tables} →
-        Fit g q us ρ i n′ o e → At i body → (length us + m .counts .bindings ≤ ring-rows → Wait g sp us m) → Named g ρ (envOf x) m →
+        Spelled g.script (nodeOf x) → Fit g q us ρ i n′ o e → At i body → (length us + m .counts .bindings ≤ ring-rows → Wait g sp us m) → Named g ρ (envOf x) m →
         IsVal g u t x m → R g s m →
         Sim g (Made g (length us) m (IsEntered g At)) sp m
         (need (entering body (suc n′) (also (name-in g (place g.script (nodeOf x))) u o)) p s λ c. make g.limits (c .count) p s λ s₁. ok c s₁)
         (andThen (is e m) λ _ i m. pick (leb (suc (length us) + m .counts .bindings) (g.limits .bindings)) (λ _.
-        let o = bindAll (g.script .tree) (length us) q (slot sp) (m .waiting) (m .counts .bindings) (envOf x) (m .bindings) in
+        let o = bindAll (g.script .tree) g.codes (length us) q (slot sp) (m .waiting) (m .counts .bindings) (envOf x) (m .bindings) in
         is (Value (suc (length us + m .counts .bindings)) i)
-        (bind (suc (length us)) (putBinding (o .bindings) (length us + m .counts .bindings) (binding (node g (nodeOf x) .place) t x (o .env))) m))
+        (bind (suc (length us)) (putBinding (o .bindings) (length us + m .counts .bindings) (binding (node g (nodeOf x) .place) (code g (nodeOf x)) t x (o .env))) m))
         λ _. is (E.Stop 23 p) m)
     unfolding need andThen
-    again-fit p t x body unfit a w e v r = no-way r
-    again-fit {us = us} p t x body {sp = sp} {m = m} (fit z e′) a w e v r =
+    again-fit p t x body z₀ unfit a w e v r = no-way r
+    again-fit {us = us} p t x body {sp = sp} {m = m} z₀ (fit z e′) a w e v r =
         rw e′ (sim-within _ _ _ _ (room-is (suc (length us)) _ _ (g.limits .bindings) (r .bindings)) r λ h.
         let l : suc (length us) + m .counts .bindings ≤ g.limits .bindings =
         leb→le _ _ (room-is (suc (length us)) _ _ (g.limits .bindings) (r .bindings) .0 h) in
-        let y = bind-each z (length us + m .counts .bindings) (2 * g.limits .bindings) (w (omega (arith, r .roomy .few-bindings))) e refl
+        let y = bind-each (r .roomy .coded) z (length us + m .counts .bindings) (2 * g.limits .bindings) (w (omega (arith, r .roomy .few-bindings))) e refl
         (omega (arith, r .roomy .bindings-fit, r .bindings-kept .long)) (omega (arith, r .roomy .few-bindings)) (omega arith) in
         let o : Old (m .bindings) (m .counts .bindings) (putBinding _ (length us + m .counts .bindings) _) =
         λ j h. old-more _ _ _ j (omega arith) ∙ y .old j h in
         goes
         (record {
           it = record {
-            in-env = env-more _ _ (keep v (omega arith) (y .old)) (y .env′) (omega (arith, r .roomy .bindings-fit, r .bindings-kept .long, y .kept .long))
-                (omega (arith, r .roomy .few-bindings)) (place-small (g.script .tree) (nodeOf x)) (omega arith);
+            in-env = env-more (r .roomy .coded) z₀ _ (keep v (omega arith) (y .old)) (y .env′)
+                (omega (arith, r .roomy .bindings-fit, r .bindings-kept .long, y .kept .long)) (omega (arith, r .roomy .few-bindings)) (omega arith);
             body-at = a;
           };
           made = omega arith;
@@ -175,15 +177,15 @@ module _ {g : Stage} where
         rw (same-count (length us) n (w .count)) (enter-fit p body (fit-is a us ρ) at (w .all) e r)
 
     again-sim : (p t n k x : ℕ) (body : B) {q i : ℕ} {xs : List ArgP} {us : List Val} {u : Val} {ρ : Env} {sp : ℕ} {s : State} {m₀ m : Tables} →
-        AtParams g.script q xs i → At i body →
+        Spelled g.script (nodeOf x) → AtParams g.script q xs i → At i body →
         Waiting g m₀ sp 0 us t n m → Named g ρ (envOf x) m → IsVal g u k x m → R g s m →
         Sim g (Made g (length us) m (IsEntered g At)) sp m
         (need (entering body (suc (length (param-names xs))) (also (name-in g (place g.script (nodeOf x))) u (bind-all (param-names xs) us ρ))) p s λ c.
         make g.limits (c .count) p s λ s₁. ok c s₁)
         (enterAgain (run-of g) p n (slot sp) q k x m)
     unfolding enterAgain need andThen
-    again-sim p t n k x body {xs = xs} {us = us} {ρ = ρ} a at w e v r =
-        rw (same-count (length us) n (w .count)) (again-fit p k x body (fit-is a us ρ) at (w .all) e v r)
+    again-sim p t n k x body {xs = xs} {us = us} {ρ = ρ} z a at w e v r =
+        rw (same-count (length us) n (w .count)) (again-fit p k x body z (fit-is a us ρ) at (w .all) e v r)
 
   -- ---- closures are opened
 
@@ -194,9 +196,9 @@ module _ {g : Stage} where
   unfolding openFunction pick need
   function-sim p k n (v-num x) w r = no-way r
   function-sim p k n (v-fun a b e) w r = enter-sim p k n _ a b w e r
-  function-sim p k n (v-rec a b e) w r = again-sim p k n _ _ _ a b w e (v-rec a b e) r
+  function-sim p k n (v-rec z a b e) w r = again-sim p k n _ _ _ z a b w e (v-rec z a b e) r
   function-sim p k n (v-proc a b e) w r = no-way r
-  function-sim p k n (v-proc-rec a b e) w r = no-way r
+  function-sim p k n (v-proc-rec z a b e) w r = no-way r
   function-sim p k n v-adr w r = no-way r
 
   pub procedure-sim : (p k n : ℕ) {t x : ℕ} {u : Val} {us : List Val} {sp : ℕ} {s : State} {m₀ m : Tables} → IsVal g u t x m →
@@ -206,9 +208,9 @@ module _ {g : Stage} where
   unfolding openProcedure pick need
   procedure-sim p k n (v-num x) w r = no-way r
   procedure-sim p k n (v-fun a b e) w r = no-way r
-  procedure-sim p k n (v-rec a b e) w r = no-way r
+  procedure-sim p k n (v-rec z a b e) w r = no-way r
   procedure-sim p k n (v-proc a b e) w r = enter-sim p k n _ a b w e r
-  procedure-sim p k n (v-proc-rec a b e) w r = again-sim p k n _ _ _ a b w e (v-proc-rec a b e) r
+  procedure-sim p k n (v-proc-rec z a b e) w r = again-sim p k n _ _ _ z a b w e (v-proc-rec z a b e) r
   procedure-sim p k n v-adr w r = no-way r
 
 -- what is entered, and then the rest

@@ -4,7 +4,7 @@ use Prim.Native.String.{String}
 use mathlib.Core.Path.{_≡_, refl}
 use mathlib.Core.List.{List, [], _∷_}
 use lib.IntN.{pos, negsuc}
-use lib.ListN.{replicate}
+use lib.ListN.{length, replicate}
 use Rattle.language.specs.Bytes.{bytesOf}
 use Rattle.language.specs.Syntax.{Block}
 use Rattle.language.specs.Answers.{DEPTH, BINDINGS, limit, done, stopped, Result, fine, refuse}
@@ -21,17 +21,21 @@ use Rattle.nodes.specs.Nodes.{nodeAt}
 use Rattle.nodes.specs.Written.{numberAt}
 use Rattle.machine.specs.Entries.{pick, rowAfter, rowAt, putRow, bindingAt, putBinding, closureWord, nodeOf, envOf}
 use Rattle.machine.specs.State.{andThen, guard}
-use Rattle.machine.specs.Leaves.{meaningAt, sameName, walk, boundTo, addressOf, readThrough, nameBy, nameValue, numeralAt, computedBy, negated, combined, isParam, bodyAfter, bindAll, enter, enterAgain, openFunction, openProcedure, define, defineCell}
-use Rattle.machine.specs.Machine.{onBit, args, allArgs, ifE, andE, orE, operatorE, callE, operatorAt, applyE, exprBy, constC, echoC, setC, blockC, ifC, callC, round, rounds, cmdBy, cmdIn, cmds, step, bottom, evaluators, blockAt}
+use Rattle.machine.specs.Codes.{meaningAt, hasName, operatorAt, isNamed, firstNamed, nameCode, codeBy, codeOf, codesFrom}
+use Rattle.machine.specs.Leaves.{walk, boundTo, addressOf, readThrough, nameValue, computedBy, negated, combined, isParam, bodyAfter, bindAll, enter, enterAgain, openFunction, openProcedure, define, defineCell}
+use Rattle.machine.specs.Machine.{onBit, args, allArgs, ifE, andE, orE, operatorE, callE, applyE, exprBy, constC, echoC, setC, blockC, ifC, callC, round, rounds, cmdBy, cmdIn, cmds, step, bottom, evaluators, blockAt}
 use Rattle.machine.specs.Shown.{fresh, program, shown}
 
 abbrev tree-of : Result Block → List ℕ
 tree-of (fine b) = table b
 tree-of (refuse r p) = []
 
+abbrev codes-of : (tree text : List ℕ) → List ℕ
+codes-of tree text = codesFrom (record { tree = tree; text = text }) (length tree) 0
+
 abbrev run-text : String → Limits → Report
 run-text s L =
-    shown (L .fuel) (program (tree-of (read (bytesOf s))) (bytesOf s) L
+    shown (L .fuel) (program (tree-of (read (bytesOf s))) (codes-of (tree-of (read (bytesOf s))) (bytesOf s)) L
     (fresh (L .fuel) (replicate (2 * L .bindings) 7) (replicate (2 * L .cells) 7) (replicate (L .output) (pos 7)) (replicate 40 7)))
 
 -- each case's run is what is expected of it
@@ -51,5 +55,5 @@ scripts =
     []
 
 scripts-shown : AllShown scripts
-unfolding read wordsFrom parse add-leaf add-fork link set-sib retype descent past deep table enc size first shapeType shapeTypes shapeArg shapeArgs shapeArgP shapeArgsP shapeExpr shapeExprs shapeExprP shapeExprsP shapeCmds shapeDef shapeStat shapeBlock meaning nodeAt numberAt pick rowAfter rowAt putRow bindingAt putBinding closureWord nodeOf envOf andThen guard meaningAt sameName walk boundTo addressOf readThrough nameBy nameValue numeralAt computedBy negated combined isParam bodyAfter bindAll enter enterAgain openFunction openProcedure define defineCell onBit args allArgs ifE andE orE operatorE callE operatorAt applyE exprBy constC echoC setC blockC ifC callC round rounds cmdBy cmdIn cmds step bottom evaluators blockAt program
+unfolding read wordsFrom parse add-leaf add-fork link set-sib retype descent past deep table enc size first shapeType shapeTypes shapeArg shapeArgs shapeArgP shapeArgsP shapeExpr shapeExprs shapeExprP shapeExprsP shapeCmds shapeDef shapeStat shapeBlock meaning nodeAt numberAt pick rowAfter rowAt putRow bindingAt putBinding closureWord nodeOf envOf andThen guard meaningAt hasName operatorAt isNamed firstNamed nameCode codeBy codeOf codesFrom walk boundTo addressOf readThrough nameValue computedBy negated combined isParam bodyAfter bindAll enter enterAgain openFunction openProcedure define defineCell onBit args allArgs ifE andE orE operatorE callE applyE exprBy constC echoC setC blockC ifC callC round rounds cmdBy cmdIn cmds step bottom evaluators blockAt program
 scripts-shown = (refl, (refl, (refl, (refl, (refl, (refl, (refl, tt)))))))

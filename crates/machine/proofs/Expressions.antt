@@ -10,20 +10,19 @@ use lib.Dec.{T, eqb, eqb→eq}
 use lib.ListN.{length}
 use Rattle.language.specs.Syntax.{Expr, if-expr, and, or, Exprs, ExprP}
 use Rattle.language.specs.Names.{Op, operator}
-use Rattle.language.specs.Numbers.{ranged}
 use Rattle.language.specs.Rules.{Val, inZ, Env, State, Outcome, ok, bind, Level, exprs, args, apply-rule, expr-rule, arg-rule, open-function}
 use Rattle.nodes.specs.Names.{meaningNo}
 use Rattle.nodes.specs.Written.{Numeral, numberAt}
 use Rattle.nodes.specs.Trees.{kind, place, child, next, AtE, at-num, at-name, at-if, at-and, at-or, at-app, at-abs, AtEs, at-one-expr, at-more-exprs, AtA, at-val, at-adr, AtAs, at-no-arg, at-more-args}
 use Rattle.nodes.proofs.Laws.{expr-there, exprs-there, arg-there}
 use Rattle.machine.specs.declared.Ending.the-variants.{Value}
-use Rattle.machine.specs.Entries.{pick, done-tag, ring-rows}
+use Rattle.machine.specs.Entries.{pick, number-tag, done-tag, ring-rows}
+use Rattle.machine.specs.Codes.{by-name}
 use Rattle.machine.specs.State.{Tables, Ret, is, spend, push}
-use Rattle.machine.specs.Leaves.{numeralAt}
 use Rattle.machine.specs.Machine.{Evaluators, allArgs, ifE, andE, orE, operatorE, callE, applyE, exprBy}
 use Rattle.machine.specs.Machine as M
 use Rattle.machine.proofs.Entries.{row-own, row-other, child-small}
-use Rattle.machine.proofs.Relation.{Stage, run-of, slot, v-num, w-none, w-more, R, Grow, Sim, goes, IsVal, Some, Waiting, Here, Adeq, node}
+use Rattle.machine.proofs.Relation.{Stage, run-of, slot, v-num, w-none, w-more, R, Grow, Sim, goes, IsVal, Some, Waiting, Here, Adeq, node, code}
 use Rattle.machine.proofs.Agree.{keep, grow-self, sim-lift, relax, some-sim, making, sim-yes, sim-no, sim-bind, sim-each, sim-call, sim-stuck, sim-map, sim-ok, sim-after, bind-ok, sim-bit}
 use Rattle.machine.proofs.States.{r-push}
 use Rattle.machine.proofs.Closures.{function-value}
@@ -179,32 +178,32 @@ module _ {g : Stage} where
     apply-sim i (no-operator n) f a x = sim-yes _ _ n (call-sim i f a x)
     apply-sim i {f = e} (an-operator o) f a x = sim-no _ _ (operator-number o) (operator-sim i o e a x)
 
-    number-sim : (i : ℕ) {ρ : Env} {env sp : ℕ} {s : State} {m : Tables} → Numeral (g.script .text) (place g.script i) → Here g ρ env s m →
-        Sim g (IsVal g) sp m (ok (inZ (numberAt (g.script .text) (place g.script i))) s) (is (numeralAt (g.script .text) (place g.script i)) m)
-    unfolding numeralAt
-    number-sim i n x = rw (n .ranged) (goes (number-val _ (in-range-fits _ (n .ranged))) (x .st) grow-self)
+    number-sim : (i : ℕ) {ρ : Env} {env sp : ℕ} {s : State} {m : Tables} → kind g.script i ≡ 18 → Numeral (g.script .text) (place g.script i) → Here g ρ env s m →
+        Sim g (IsVal g) sp m (ok (inZ (numberAt (g.script .text) (place g.script i))) s) (is (Value number-tag (code g i)) m)
+    number-sim i k n x = rw (x .st .roomy .coded .number i k) (goes (number-val _ (in-range-fits _ (n .ranged))) (x .st) grow-self)
 
     -- ---- by kind
 
-    by-kind : (k i env : ℕ) {o : Outcome Val} {sp : ℕ} {m : Tables} → kind g.script i ≡ k → Sim g (IsVal g) sp m o (exprBy (run-of g) k S env (slot sp) (node g i) m) →
-        Sim g (IsVal g) sp m o (exprBy (run-of g) (kind g.script i) S env (slot sp) (node g i) m)
-    by-kind k i env {o} {sp} {m} e f = subst (λ (j : ℕ). Sim g (IsVal g) sp m o (exprBy (run-of g) j S env (slot sp) (node g i) m)) (sym e) f
+    by-kind : (k i env : ℕ) {o : Outcome Val} {sp : ℕ} {m : Tables} → kind g.script i ≡ k → Sim g (IsVal g) sp m o (exprBy (run-of g) k (code g i) S env (slot sp) (node g i) m) →
+        Sim g (IsVal g) sp m o (exprBy (run-of g) (kind g.script i) (code g i) S env (slot sp) (node g i) m)
+    by-kind k i env {o} {sp} {m} e f = subst (λ (j : ℕ). Sim g (IsVal g) sp m o (exprBy (run-of g) j (code g i) S env (slot sp) (node g i) m)) (sym e) f
 
     pub expr-sim : {i : ℕ} {e : Expr} {ρ : Env} {env sp : ℕ} {s : State} {m : Tables} → AtE g.script i e → Here g ρ env s m →
-        Sim g (IsVal g) sp m (expr-rule g.limits l e ρ s) (exprBy (run-of g) (kind g.script i) S env (slot sp) (node g i) m)
+        Sim g (IsVal g) sp m (expr-rule g.limits l e ρ s) (exprBy (run-of g) (kind g.script i) (code g i) S env (slot sp) (node g i) m)
     unfolding exprBy pick
-    expr-sim (at-num k n) x = by-kind 18 _ _ (k .kind-is) (number-sim _ n x)
-    expr-sim (at-name k) x = by-kind 19 _ _ (k .kind-is) (name-sim _ (x .names′) (x .st))
+    expr-sim (at-num k n) x = by-kind 18 _ _ (k .kind-is) (number-sim _ (k .kind-is) n x)
+    expr-sim (at-name k) x = by-kind 19 _ _ (k .kind-is) (name-sim (by-name (k .kind-is)) (x .names′) (x .st))
     expr-sim (at-if k a b c z) x = by-kind 20 _ _ (k .kind-is) (if-sim _ a b c x)
     expr-sim (at-and k a b z) x = by-kind 21 _ _ (k .kind-is) (and-sim _ a b x)
     expr-sim (at-or k a b z) x = by-kind 22 _ _ (k .kind-is) (or-sim _ a b x)
-    expr-sim (at-app k f as′) x = by-kind 23 _ _ (k .kind-is) (apply-sim _ (head-is g f) f as′ x)
+    expr-sim (at-app {i = i} k f as′) x =
+        by-kind 23 _ _ (k .kind-is) (rw (x .st .roomy .coded .operator i (k .kind-is)) (apply-sim _ (head-is g f) f as′ x))
     expr-sim (at-abs {i = i} k ps a z) x =
         by-kind 24 _ _ (k .kind-is)
         (goes (function-value (x .names′) (x .st) _ (child-small (g.script .tree) i) ps a) (x .st) grow-self)
 
     pub arg-sim : {i : ℕ} {a : ExprP} {ρ : Env} {env sp : ℕ} {s : State} {m : Tables} → AtA g.script i a → Here g ρ env s m →
-        Sim g (IsVal g) sp m (arg-rule g.limits l a ρ s) (exprBy (run-of g) (kind g.script i) S env (slot sp) (node g i) m)
+        Sim g (IsVal g) sp m (arg-rule g.limits l a ρ s) (exprBy (run-of g) (kind g.script i) (code g i) S env (slot sp) (node g i) m)
     unfolding exprBy pick
     arg-sim (at-val a) x = expr-sim a x
-    arg-sim (at-adr k y z) x = by-kind 25 _ _ (k .kind-is) (address-sim _ _ (x .names′) (x .st))
+    arg-sim (at-adr k y z) x = by-kind 25 _ _ (k .kind-is) (address-sim _ (by-name (y .kind-is)) (x .names′) (x .st))

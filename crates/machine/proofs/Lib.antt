@@ -2,6 +2,7 @@ pub mod Examples
 pub mod Members
 pub mod Entries
 pub mod Lists
+pub mod Codes
 pub mod Relation
 pub mod Agree
 pub mod States

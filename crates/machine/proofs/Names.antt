@@ -1,11 +1,12 @@
 -- Names: looked up, read through, asked for an address, and as the head of an application.
-use mathlib.Core.Path.{_≡_, sym, subst}
+use mathlib.Core.Path.{_≡_, refl, sym, subst}
 use mathlib.Core.Bool.{Bool, true, false}
 use mathlib.Core.List.{List}
 use mathlib.Core.Option.{Option, none, some}
-use Prim.Native.Nat.{ℕ}
+use Prim.Native.Nat.{ℕ, _≤_}
 use native.Mathlib.Nat.{le-refl}
-use lib.Dec.{T, eqb, ltb}
+use native.Mathlib.Omega.{arith}
+use lib.Dec.{T, eqb, ltb, ltb→lt}
 use Rattle.language.specs.Syntax.{Expr}
 use Rattle.language.specs.Names.{Op, not, eq, lt, add, sub, mul, div, Meaning, literal, operator, free, meaning, unless-nine, operator-of, head-operator}
 use Rattle.language.specs.Rules.{Val, inA, Env, State, Outcome, ok, need, look, as-address, give-cell, read, name-rule}
@@ -15,35 +16,43 @@ use Rattle.machine.specs.declared.Row.{Row}
 use Rattle.machine.specs.declared.Ending.{Ending}
 use Rattle.machine.specs.declared.Ending.the-variants.{Value, NoRule}
 use Rattle.machine.specs.declared.Ending.the-variants as E
-use Rattle.machine.specs.Entries.{pick, address-tag, unset-tag}
+use Rattle.machine.specs.Entries.{pick, address-tag, unset-tag, first-free}
 use Rattle.machine.specs.State.{Tables, Ret, is, andThen, ifValue}
-use Rattle.machine.specs.Leaves.{meaningAt, boundTo, addressOf, readThrough, nameBy, nameValue, walk}
-use Rattle.machine.specs.Machine.{operatorAt}
+use Rattle.machine.specs.Leaves.{boundTo, addressOf, readThrough, nameValue, walk}
+use Rattle.machine.specs.Codes.{meaningAt, Meant, free-code, literal-code, operator-code, Spelled, operatorAt, Coded}
 use Rattle.machine.proofs.Lists.{asks-nth}
-use Rattle.machine.proofs.Relation.{Stage, run-of, v-num, v-fun, v-rec, v-proc, v-proc-rec, v-adr, ValR, EnvR, Found, found, lost, CellR, c-unset, c-set, R, Sim, goes, stops, no-way, IsVal, Named, name-in}
+use Rattle.machine.proofs.Relation.{Stage, v-num, v-fun, v-rec, v-proc, v-proc-rec, v-adr, ValR, EnvR, Found, found, lost, CellR, c-unset, c-set, R, Sim, goes, stops, no-way, IsVal, Named, code, name-in}
 use Rattle.machine.proofs.Agree.{walk-finds, grow-self, end-need}
+
+is-false : (b : Bool) → (T b → ⊥) → b ≡ false
+is-false true h = absurd (h tt)
+is-false false h = refl
+
+-- the code of none of the nine
+not-nine : (c : ℕ) → first-free ≤ c → ltb c first-free ≡ false
+not-nine c h = is-false _ λ t. let l = ltb→lt c first-free t in omega (arith, l)
 
 module _ {g : Stage} where
   -- ---- looked up
 
-  bound-by : (k : Meaning) {b : List ℕ} {c : ℕ} {o : Option Val} {e : Ending} → Found g b c o e →
-      Found g b c (unless-nine k o) (pick (eqb (meaningNo k) 0) (λ _. e) λ _. NoRule)
+  bound-by : {k : Meaning} {y : ℕ} {b : List ℕ} {c : ℕ} {o : Option Val} {e : Ending} → Meant k y → (first-free ≤ y → Found g b c o e) →
+      Found g b c (unless-nine k o) (pick (ltb y first-free) (λ _. NoRule) λ _. e)
   unfolding pick
-  bound-by free h = h
-  bound-by (literal true) h = lost
-  bound-by (literal false) h = lost
-  bound-by (operator not) h = lost
-  bound-by (operator eq) h = lost
-  bound-by (operator lt) h = lost
-  bound-by (operator add) h = lost
-  bound-by (operator sub) h = lost
-  bound-by (operator mul) h = lost
-  bound-by (operator div) h = lost
+  bound-by {y = y} (free-code l) h = rw (not-nine y l) (h l)
+  bound-by (literal-code true) h = lost
+  bound-by (literal-code false) h = lost
+  bound-by (operator-code not) h = lost
+  bound-by (operator-code eq) h = lost
+  bound-by (operator-code lt) h = lost
+  bound-by (operator-code add) h = lost
+  bound-by (operator-code sub) h = lost
+  bound-by (operator-code mul) h = lost
+  bound-by (operator-code div) h = lost
 
-  pub bound-finds : {b : List ℕ} {c : ℕ} {ρ : Env} {e : ℕ} → EnvR g b c ρ e → (q : ℕ) →
-      Found g b c (look ρ (name-in g q)) (boundTo (g.script .text) b q c e)
-  unfolding boundTo meaningAt
-  bound-finds e q = bound-by (meaning (name-in g q)) (walk-finds e q _ (le-refl _))
+  pub bound-finds : Coded g.script g.codes → {b : List ℕ} {c : ℕ} {ρ : Env} {e : ℕ} → EnvR g b c ρ e → {q : ℕ} → Spelled g.script q →
+      Found g b c (look ρ (name-in g (place g.script q))) (boundTo b (code g q) c e)
+  unfolding boundTo
+  bound-finds d e z = bound-by (d .meant z) λ l. walk-finds d e z l _ (le-refl _)
 
   module _ {B : Type 0} {P : B → (t x : ℕ) → Tables → Type 0} where
     found-sim : {b : List ℕ} {c : ℕ} {o : Option Val} {e : Ending} (p : ℕ) {s : State} {sp : ℕ} {m : Tables} {k : Val → Outcome B} (k′ : ℕ → ℕ → Tables → Ret) →
@@ -52,11 +61,11 @@ module _ {g : Stage} where
     found-sim p k′ (found u) s f = f _ _ _ u
     found-sim p k′ lost s f = no-way s
 
-    pub sim-look : {ρ : Env} {env : ℕ} (p q : ℕ) {s : State} {sp : ℕ} {m : Tables} {k : Val → Outcome B} (k′ : ℕ → ℕ → Tables → Ret) →
-        Named g ρ env m → R g s m →
+    pub sim-look : {ρ : Env} {env q : ℕ} (p : ℕ) {s : State} {sp : ℕ} {m : Tables} {k : Val → Outcome B} (k′ : ℕ → ℕ → Tables → Ret) →
+        Spelled g.script q → Named g ρ env m → R g s m →
         ((u : Val) (t x : ℕ) → IsVal g u t x m → Sim g P sp m (k u) (k′ t x m)) →
-        Sim g P sp m (need (look ρ (name-in g q)) p s k) (andThen (is (boundTo (g.script .text) (m .bindings) q (m .counts .bindings) env) m) k′)
-    sim-look p q k′ n s f = found-sim p k′ (bound-finds n q) s f
+        Sim g P sp m (need (look ρ (name-in g (place g.script q))) p s k) (andThen (is (boundTo (m .bindings) (code g q) (m .counts .bindings) env) m) k′)
+    sim-look p k′ z n s f = found-sim p k′ (bound-finds (s .roomy .coded) n z) s f
 
     -- ---- asked for an address
 
@@ -68,17 +77,17 @@ module _ {g : Stage} where
     located p k′ lost s f = no-way s
     located p k′ (found (v-num x)) s f = no-way s
     located p k′ (found (v-fun a b n)) s f = no-way s
-    located p k′ (found (v-rec a b n)) s f = no-way s
+    located p k′ (found (v-rec z a b n)) s f = no-way s
     located p k′ (found (v-proc a b n)) s f = no-way s
-    located p k′ (found (v-proc-rec a b n)) s f = no-way s
+    located p k′ (found (v-proc-rec z a b n)) s f = no-way s
     located p k′ (found (v-adr {a = a})) s f = f a
 
-    pub sim-address : {ρ : Env} {env : ℕ} (p q : ℕ) {s : State} {sp : ℕ} {m : Tables} {k : ℕ → Outcome B} (k′ : ℕ → ℕ → Tables → Ret) →
-        Named g ρ env m → R g s m → ((a : ℕ) → Sim g P sp m (k a) (k′ address-tag a m)) →
-        Sim g P sp m (need (look ρ (name-in g q)) p s λ v. need (as-address v) p s k)
-        (andThen (is (addressOf (g.script .text) (m .bindings) q (m .counts .bindings) env) m) k′)
+    pub sim-address : {ρ : Env} {env q : ℕ} (p : ℕ) {s : State} {sp : ℕ} {m : Tables} {k : ℕ → Outcome B} (k′ : ℕ → ℕ → Tables → Ret) →
+        Spelled g.script q → Named g ρ env m → R g s m → ((a : ℕ) → Sim g P sp m (k a) (k′ address-tag a m)) →
+        Sim g P sp m (need (look ρ (name-in g (place g.script q))) p s λ v. need (as-address v) p s k)
+        (andThen (is (addressOf (m .bindings) (code g q) (m .counts .bindings) env) m) k′)
     unfolding addressOf
-    sim-address p q k′ n s f = located p k′ (bound-finds n q) s f
+    sim-address p k′ z n s f = located p k′ (bound-finds (s .roomy .coded) n z) s f
 
   -- the address itself
   found-address : {b : List ℕ} {c : ℕ} {o : Option Val} {e : Ending} (p : ℕ) {s : State} {sp : ℕ} {m : Tables} → Found g b c o e → R g s m →
@@ -88,25 +97,25 @@ module _ {g : Stage} where
   found-address p lost s = no-way s
   found-address p (found (v-num x)) s = no-way s
   found-address p (found (v-fun a b n)) s = no-way s
-  found-address p (found (v-rec a b n)) s = no-way s
+  found-address p (found (v-rec z a b n)) s = no-way s
   found-address p (found (v-proc a b n)) s = no-way s
-  found-address p (found (v-proc-rec a b n)) s = no-way s
+  found-address p (found (v-proc-rec z a b n)) s = no-way s
   found-address p (found v-adr) s = goes v-adr s grow-self
 
-  pub address-sim : {ρ : Env} {env : ℕ} (p q : ℕ) {s : State} {sp : ℕ} {m : Tables} → Named g ρ env m → R g s m →
-      Sim g (IsVal g) sp m (need (look ρ (name-in g q)) p s λ v. need (as-address v) p s λ a. ok (inA a) s)
-      (is (addressOf (g.script .text) (m .bindings) q (m .counts .bindings) env) m)
+  pub address-sim : {ρ : Env} {env q : ℕ} (p : ℕ) {s : State} {sp : ℕ} {m : Tables} → Spelled g.script q → Named g ρ env m → R g s m →
+      Sim g (IsVal g) sp m (need (look ρ (name-in g (place g.script q))) p s λ v. need (as-address v) p s λ a. ok (inA a) s)
+      (is (addressOf (m .bindings) (code g q) (m .counts .bindings) env) m)
   unfolding addressOf
-  address-sim p q n s = found-address p (bound-finds n q) s
+  address-sim p z n s = found-address p (bound-finds (s .roomy .coded) n z) s
 
   -- ---- read
 
   not-unset : {b : List ℕ} {c t x : ℕ} {u : Val} → ValR g b c u t x → T (eqb t unset-tag) → ⊥
   not-unset (v-num x) h = h
   not-unset (v-fun a e n) h = h
-  not-unset (v-rec a e n) h = h
+  not-unset (v-rec z a e n) h = h
   not-unset (v-proc a e n) h = h
-  not-unset (v-proc-rec a e n) h = h
+  not-unset (v-proc-rec z a e n) h = h
   not-unset v-adr h = h
 
   set-cell : (b : Bool) {u : Val} {t x : ℕ} (p : ℕ) {sp : ℕ} {s : State} {m : Tables} → (T b → ⊥) → IsVal g u t x m → R g s m →
@@ -126,9 +135,9 @@ module _ {g : Stage} where
   unfolding readThrough pick
   read-sim p (v-num x) r = goes (v-num x) r grow-self
   read-sim p (v-fun a e n) r = goes (v-fun a e n) r grow-self
-  read-sim p (v-rec a e n) r = goes (v-rec a e n) r grow-self
+  read-sim p (v-rec z a e n) r = goes (v-rec z a e n) r grow-self
   read-sim p (v-proc a e n) r = goes (v-proc a e n) r grow-self
-  read-sim p (v-proc-rec a e n) r = goes (v-proc-rec a e n) r grow-self
+  read-sim p (v-proc-rec z a e n) r = goes (v-proc-rec z a e n) r grow-self
   read-sim p {s = s} (v-adr {a = a}) r = end-need p (asks-nth (s .cells) a _ (r .cells)) r λ c q. cell-sim p r (r .each a c q)
 
   free-sim : (p : ℕ) {sp : ℕ} {s : State} {m : Tables} {o : Option Val} {e : Ending} → Found g (m .bindings) (m .counts .bindings) o e → R g s m →
@@ -137,27 +146,27 @@ module _ {g : Stage} where
   free-sim p (found u) r = read-sim p u r
   free-sim p lost r = no-way r
 
-  name-by : (k : Meaning) (p env : ℕ) {sp : ℕ} {s : State} {m : Tables} {o : Option Val} →
-      Found g (m .bindings) (m .counts .bindings) o (walk (g.script .text) (m .bindings) p (m .counts .bindings) env) → R g s m →
+  name-by : {k : Meaning} {y : ℕ} (p env : ℕ) {sp : ℕ} {s : State} {m : Tables} {o : Option Val} → Meant k y →
+      (first-free ≤ y → Found g (m .bindings) (m .counts .bindings) o (walk (m .bindings) y (m .counts .bindings) env)) → R g s m →
       Sim g (IsVal g) sp m (name-rule k (unless-nine k o) p s)
-      (is (nameBy (meaningNo k) (g.script .text) (m .bindings) (m .cells) p (m .counts .bindings) (m .counts .cells) env) m)
-  unfolding nameBy pick
-  name-by free p env h r = free-sim p h r
-  name-by (literal true) p env h r = goes (v-num 1) r grow-self
-  name-by (literal false) p env h r = goes (v-num 0) r grow-self
-  name-by (operator not) p env h r = no-way r
-  name-by (operator eq) p env h r = no-way r
-  name-by (operator lt) p env h r = no-way r
-  name-by (operator add) p env h r = no-way r
-  name-by (operator sub) p env h r = no-way r
-  name-by (operator mul) p env h r = no-way r
-  name-by (operator div) p env h r = no-way r
+      (is (nameValue (m .bindings) (m .cells) y p (m .counts .bindings) (m .counts .cells) env) m)
+  unfolding nameValue pick
+  name-by {y = y} p env (free-code l) h r = rw (not-nine y l) (free-sim p (h l) r)
+  name-by p env (literal-code true) h r = goes (v-num 1) r grow-self
+  name-by p env (literal-code false) h r = goes (v-num 0) r grow-self
+  name-by p env (operator-code not) h r = no-way r
+  name-by p env (operator-code eq) h r = no-way r
+  name-by p env (operator-code lt) h r = no-way r
+  name-by p env (operator-code add) h r = no-way r
+  name-by p env (operator-code sub) h r = no-way r
+  name-by p env (operator-code mul) h r = no-way r
+  name-by p env (operator-code div) h r = no-way r
 
-  pub name-sim : {ρ : Env} {env : ℕ} (p : ℕ) {sp : ℕ} {s : State} {m : Tables} → Named g ρ env m → R g s m →
-      Sim g (IsVal g) sp m (name-rule (meaning (name-in g p)) (look ρ (name-in g p)) p s)
-      (is (nameValue (g.script .text) (m .bindings) (m .cells) p (m .counts .bindings) (m .counts .cells) env) m)
-  unfolding nameValue meaningAt
-  name-sim {env = env} p n r = name-by (meaning (name-in g p)) p env (walk-finds n p _ (le-refl _)) r
+  pub name-sim : {ρ : Env} {env q : ℕ} {sp : ℕ} {s : State} {m : Tables} → Spelled g.script q → Named g ρ env m → R g s m →
+      Sim g (IsVal g) sp m (name-rule (meaning (name-in g (place g.script q))) (look ρ (name-in g (place g.script q))) (place g.script q) s)
+      (is (nameValue (m .bindings) (m .cells) (code g q) (place g.script q) (m .counts .bindings) (m .counts .cells) env) m)
+  name-sim {env = env} {q = q} z n r =
+      name-by (place g.script q) env (r .roomy .coded .meant z) (λ l. walk-finds (r .roomy .coded) n z l _ (le-refl _)) r
 
 -- ---- at the head of an application
 
@@ -183,11 +192,11 @@ operator-number div h = h
 
 module _ (g : Stage) where
   head-kind : (i k : ℕ) {o : Option Op} → kind g.script i ≡ k → Head o (pick (eqb k 19) (λ _. meaningAt (g.script .text) (place g.script i)) λ _. 0) →
-      Head o (operatorAt (run-of g) i)
+      Head o (operatorAt g.script i)
   unfolding operatorAt
   head-kind i k {o} e h = subst (λ (j : ℕ). Head o (pick (eqb j 19) (λ _. meaningAt (g.script .text) (place g.script i)) λ _. 0)) (sym e) h
 
-  pub head-is : {i : ℕ} {e : Expr} → AtE g.script i e → Head (head-operator e) (operatorAt (run-of g) i)
+  pub head-is : {i : ℕ} {e : Expr} → AtE g.script i e → Head (head-operator e) (operatorAt g.script i)
   unfolding pick meaningAt
   head-is (at-num k n) = head-kind _ 18 (k .kind-is) (no-operator tt)
   head-is (at-name {i = i} k) = head-kind _ 19 (k .kind-is) (head-meaning (meaning (name-in g (place g.script i))))

@@ -3,7 +3,7 @@ use mathlib.Core.Path.{_≡_}
 use mathlib.Core.List.{List, [], _∷_, _++_}
 use mathlib.Core.Option.{Option, none, some}
 use Prim.Native.Nat.{ℕ, suc, _+_, _*_, _%_, _≤_, _<_}
-use lib.ListN.{length, drop}
+use lib.ListN.{length, getD, drop}
 use mir.Syntax.{w64}
 use mir.Val.{toZ}
 use Rattle.language.specs.Syntax.{Name, ArgP, Expr, ExprP, Def, Stat, Cmds, Block}
@@ -20,6 +20,7 @@ use Rattle.machine.specs.declared.Ending.{Ending}
 use Rattle.machine.specs.declared.Ending.the-variants.{Value, NoRule}
 use Rattle.machine.specs.declared.Ending.the-variants as E
 use Rattle.machine.specs.Entries.{number-tag, function-tag, recursive-function-tag, procedure-tag, recursive-procedure-tag, address-tag, unset-tag, ring-rows, row, rowAt, binding, bindingAt, nodeOf, envOf}
+use Rattle.machine.specs.Codes.{Spelled, Coded}
 use Rattle.machine.specs.State.{Run, Tables, Ret, is}
 use Rattle.machine.specs.Machine.{Evaluators, cmdIn}
 use Rattle.machine.specs.Leaves.{Opened}
@@ -28,20 +29,24 @@ use Rattle.machine.specs.Shown.{boundsOf}
 -- a run on a script under limits, with the tables as they were lent
 pub record Stage : Type 0 where
   pub script : Script
+  pub codes : List ℕ
   pub limits : Limits
   pub old : Tables
 
 abbrev pub run-of : Stage → Run
-run-of g = record { script = g.script; bounds = boundsOf g.limits }
+run-of g = record { tree = g.script .tree; codes = g.codes; bounds = boundsOf g.limits }
 
--- a node of the script, and the name that its text has at a place
+-- a node of the script, its code, and the name that its text has at a place
 abbrev pub node : Stage → ℕ → Node
 node g i = nodeAt (g.script .tree) i
+
+abbrev pub code : Stage → ℕ → ℕ
+code g i = getD g.codes i 0
 
 abbrev pub name-in : Stage → ℕ → Name
 name-in g p = nameAt (g.script .text) p
 
--- the lent tables are large enough
+-- the lent tables are large enough, and the codes are right
 pub record Roomy (g : Stage) : Type 0 where
   pub few-bindings : g.limits .bindings ≤ 4096
   pub few-cells : g.limits .cells ≤ 4096
@@ -49,6 +54,7 @@ pub record Roomy (g : Stage) : Type 0 where
   pub cells-fit : 2 * g.limits .cells ≤ length (g.old .cells)
   pub output-fit : g.limits .output ≤ length (g.old .output)
   pub waiting-fit : 2 * ring-rows ≤ length (g.old .waiting)
+  pub coded : Coded g.script g.codes
 
 -- the row of a ring in which the value k waits
 abbrev pub slot : ℕ → ℕ
@@ -77,16 +83,16 @@ module _ (g : Stage) where
     v-num : {c : ℕ} (x : ℕ) → Rep b c (value (inZ (toZ w64 x)) number-tag x)
     v-fun : {c x i : ℕ} {xs : List ArgP} {e : Expr} {ρ : Env} → AtParams g.script (nodeOf x) xs i → AtE g.script i e → Rep b c (names ρ (envOf x)) →
         Rep b c (value (inF e (param-names xs) ρ) function-tag x)
-    v-rec : {c x i : ℕ} {xs : List ArgP} {e : Expr} {ρ : Env} → AtParams g.script (next g.script (next g.script (nodeOf x))) xs i → AtE g.script i e →
+    v-rec : {c x i : ℕ} {xs : List ArgP} {e : Expr} {ρ : Env} → Spelled g.script (nodeOf x) → AtParams g.script (next g.script (next g.script (nodeOf x))) xs i → AtE g.script i e →
         Rep b c (names ρ (envOf x)) → Rep b c (value (inFR e (name-in g (place g.script (nodeOf x))) (param-names xs) ρ) recursive-function-tag x)
     v-proc : {c x i : ℕ} {xs : List ArgP} {a : Block} {ρ : Env} → AtParams g.script (nodeOf x) xs i → AtB g.script i a → Rep b c (names ρ (envOf x)) →
         Rep b c (value (inP a (param-names xs) ρ) procedure-tag x)
-    v-proc-rec : {c x i : ℕ} {xs : List ArgP} {a : Block} {ρ : Env} → AtParams g.script (next g.script (nodeOf x)) xs i → AtB g.script i a →
+    v-proc-rec : {c x i : ℕ} {xs : List ArgP} {a : Block} {ρ : Env} → Spelled g.script (nodeOf x) → AtParams g.script (next g.script (nodeOf x)) xs i → AtB g.script i a →
         Rep b c (names ρ (envOf x)) → Rep b c (value (inPR a (name-in g (place g.script (nodeOf x))) (param-names xs) ρ) recursive-procedure-tag x)
     v-adr : {c a : ℕ} → Rep b c (value (inA a) address-tag a)
     e-none : {c : ℕ} → Rep b c (names empty 0)
-    e-bound : {c k p t x l : ℕ} {u : Val} {ρ : Env} → suc k ≤ c → bindingAt b k ≡ binding p t x l → Rep b k (value u t x) → Rep b k (names ρ l) →
-        Rep b c (names (bound (name-in g p) u ρ) (suc k))
+    e-bound : {c k i t x l : ℕ} {u : Val} {ρ : Env} → Spelled g.script i → suc k ≤ c → bindingAt b k ≡ binding (place g.script i) (code g i) t x l →
+        Rep b k (value u t x) → Rep b k (names ρ l) → Rep b c (names (bound (name-in g (place g.script i)) u ρ) (suc k))
 
   abbrev pub ValR : List ℕ → ℕ → Val → (tag word : ℕ) → Type 0
   ValR b c u t x = Rep b c (value u t x)
@@ -181,7 +187,7 @@ module _ (g : Stage) where
   -- parameters from q on and values, one by one: the names grow from ρ to ρ′, up to the node i
   pub data Zip : ℕ → List Val → Env → Env → ℕ → Type 0 where
     z-none : {q : ℕ} {ρ : Env} → Zip q [] ρ ρ q
-    z-more : {q i : ℕ} {u : Val} {us : List Val} {ρ ρ′ : Env} → Zip (next g.script q) us (bound (name-in g (place g.script q)) u ρ) ρ′ i →
+    z-more : {q i : ℕ} {u : Val} {us : List Val} {ρ ρ′ : Env} → Spelled g.script q → Zip (next g.script q) us (bound (name-in g (place g.script q)) u ρ) ρ′ i →
         Zip q (u ∷ us) ρ ρ′ i
 
   pub data Fit (q : ℕ) (us : List Val) (ρ : Env) (i n : ℕ) : Option Env → Ending → Type 0 where

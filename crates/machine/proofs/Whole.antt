@@ -23,6 +23,7 @@ use Rattle.machine.specs.declared.Ending.{Ending}
 use Rattle.machine.specs.declared.Ending.the-variants.{Value}
 use Rattle.machine.specs.declared.Ending.the-variants as E
 use Rattle.machine.specs.Entries.{pick, ring-rows}
+use Rattle.machine.specs.Codes.{Coded}
 use Rattle.machine.specs.State.{Tables, Ret}
 use Rattle.machine.specs.Machine.{blockAt}
 use Rattle.machine.specs.Shown.{fresh, program, stopBy, answerOf, shown, toldBy}
@@ -114,13 +115,13 @@ agrees (no-way r) = record { reports = same-report _ _ refl r; known = known-non
 -- ---- the theorem
 
 -- of a block at the root, whatever the tables held before
-pub block-runs : (g : Script) (L : Limits) {b : Block} (bindings cells : List ℕ) (output : List ℤ) (waiting : List ℕ) → AtB g 0 b → Admitted L →
+pub block-runs : (g : Script) (codes : List ℕ) (L : Limits) {b : Block} (bindings cells : List ℕ) (output : List ℤ) (waiting : List ℕ) → AtB g 0 b → Coded g codes → Admitted L →
     2 * L .bindings ≤ length bindings → 2 * L .cells ≤ length cells → L .output ≤ length output → 2 * ring-rows ≤ length waiting →
-    RunsAs L b (fresh (L .fuel) bindings cells output waiting) (program g.tree g.text L (fresh (L .fuel) bindings cells output waiting))
+    RunsAs L b (fresh (L .fuel) bindings cells output waiting) (program g.tree codes L (fresh (L .fuel) bindings cells output waiting))
 unfolding program blockAt
-block-runs g L bindings cells output waiting (at-block k a) adm hb hc ho hw =
+block-runs g codes L bindings cells output waiting (at-block k a) w adm hb hc ho hw =
     let old : Tables = fresh (L .fuel) bindings cells output waiting in
-    let stage : Stage = record { script = g; limits = L; old = old } in
+    let stage : Stage = record { script = g; codes = codes; limits = L; old = old } in
     let begin : R stage start old =
     record {
       units = omega arith;
@@ -142,6 +143,7 @@ block-runs g L bindings cells output waiting (at-block k a) adm hb hc ho hw =
         cells-fit = hc;
         output-fit = ho;
         waiting-fit = hw;
+        coded = w;
       };
     } in
     let here : Here stage empty 0 start old = record { names′ = e-none; st = begin } in
@@ -156,11 +158,11 @@ block-runs g L bindings cells output waiting (at-block k a) adm hb hc ho hw =
       waiting-kept = x .state .waiting-kept;
     }
 
--- of every text that reads, on the table of its tree
-pub text-runs : (g : Script) (L : Limits) (b : Block) (bindings cells : List ℕ) (output : List ℤ) (waiting : List ℕ) → ReadAs g b → Admitted L →
+-- of every text that reads, on the table of its tree and the right codes
+pub text-runs : (g : Script) (codes : List ℕ) (L : Limits) (b : Block) (bindings cells : List ℕ) (output : List ℤ) (waiting : List ℕ) → ReadAs g b → Coded g codes → Admitted L →
     2 * L .bindings ≤ length bindings → 2 * L .cells ≤ length cells → L .output ≤ length output → 2 * ring-rows ≤ length waiting →
-    RunsAs L b (fresh (L .fuel) bindings cells output waiting) (program g.tree g.text L (fresh (L .fuel) bindings cells output waiting))
-text-runs g L b bindings cells output waiting h = block-runs g L bindings cells output waiting (root h)
+    RunsAs L b (fresh (L .fuel) bindings cells output waiting) (program g.tree codes L (fresh (L .fuel) bindings cells output waiting))
+text-runs g codes L b bindings cells output waiting h = block-runs g codes L bindings cells output waiting (root h)
 
 -- ---- the corollary: a typed program never comes to a state that no rule fits
 

@@ -42,6 +42,10 @@ done-tag = 7
 abbrev pub again-tag : ℕ
 again-tag = 8
 
+-- the codes below this are the nine names'
+abbrev pub first-free : ℕ
+first-free = 10
+
 -- no table has more rows
 abbrev pub most-rows : ℕ
 most-rows = 4096
@@ -64,22 +68,22 @@ rowAt l k = pick (ltb k most-rows) (λ _. row (getD l (2 * k) 0) (getD l (2 * k 
 unfoldable pub putRow : List ℕ → ℕ → (tag word : ℕ) → List ℕ
 putRow l k t x = pick (ltb k most-rows) (λ _. set (set l (2 * k) t) (2 * k + 1) x) λ _. l
 
-abbrev pub binding : (place tag word link : ℕ) → Binding
-binding p t x l = record { place = p; tag = t; word = x; link = l }
+abbrev pub binding : (place name tag word link : ℕ) → Binding
+binding p c t x l = record { place = p; name = c; tag = t; word = x; link = l }
 
--- a binding's first word: tag, place and link, 16 bits each
-abbrev pub headOf : (place tag link : ℕ) → ℕ
-headOf p t l = (t % 65536 * 65536 + p % 65536) * 65536 + l % 65536
+-- a binding's first word: its name's code, tag, place and link, 16 bits each
+abbrev pub headOf : (place name tag link : ℕ) → ℕ
+headOf p c t l = ((c % 65536 * 65536 + t % 65536) * 65536 + p % 65536) * 65536 + l % 65536
 
 abbrev pub bindingOf : Row → Binding
-bindingOf r = binding (r .tag / 65536 % 65536) (r .tag / 4294967296) (r .word) (r .tag % 65536)
+bindingOf r = binding (r .tag / 65536 % 65536) (r .tag / 281474976710656) (r .tag / 4294967296 % 65536) (r .word) (r .tag % 65536)
 
 -- the binding k of a table
 unfoldable pub bindingAt : List ℕ → ℕ → Binding
 bindingAt l k = bindingOf (rowAt l k)
 
 unfoldable pub putBinding : List ℕ → ℕ → Binding → List ℕ
-putBinding l k b = putRow l k (headOf (b .place) (b .tag) (b .link)) (b .word)
+putBinding l k b = putRow l k (headOf (b .place) (b .name) (b .tag) (b .link)) (b .word)
 
 -- a closure's word: a node and the environment of its definition, 16 bits each. The node is its first parameter, or its name where it knows that
 unfoldable pub closureWord : (node env : ℕ) → ℕ
