@@ -1,9 +1,9 @@
 -- The relation's laws: what is kept, and one law for each way in which the rules are put together.
 use mathlib.Core.Path.{_≡_, refl, _∙_}
-use mathlib.Core.Bool.{Bool, true, false, cond}
+use mathlib.Core.Bool.{Bool, true, false}
 use mathlib.Core.List.{List}
 use mathlib.Core.Option.{Option, none, some}
-use Prim.Native.Nat.{ℕ, zero, suc, _+_, _-_, _≤_, _<_}
+use Prim.Native.Nat.{ℕ, zero, suc, _+_, _≤_, _<_}
 use native.Mathlib.Nat.{le-refl, le-trans, not-suc-le-zero}
 use native.Mathlib.Omega.{arith}
 use lib.Dec.{T, eqb, ltb, eqb·suc-zero, eqb·suc-suc}
@@ -13,27 +13,17 @@ use mir.Syntax.{w64}
 use mir.Val.{toZ, sel}
 use Rattle.language.specs.Answers.{LimitStop, Stop, limit, stop-number}
 use Rattle.language.specs.Numbers.{as-bit}
-use Rattle.language.specs.Rules.{Val, Env, State, no-rule, Outcome, ok, halt, bind, need, within, branch, lookup-env, as-number, as-truth, as-address}
+use Rattle.language.specs.Rules.{Val, Env, State, no-rule, Outcome, ok, halt, bind, need, within, branch, as-number, as-truth, as-address}
 use Rattle.machine.specs.declared.Row.{Row}
 use Rattle.machine.specs.declared.Ending.{Ending}
-use Rattle.machine.specs.declared.Ending.the-variants.{Value, NoRule}
+use Rattle.machine.specs.declared.Ending.the-variants.{NoRule}
 use Rattle.machine.specs.declared.Ending.the-variants as E
-use Rattle.machine.specs.Entries.{pick, number-tag, address-tag, first-free, bindingAt}
+use Rattle.machine.specs.Entries.{pick, number-tag, address-tag, binding}
 use Rattle.machine.specs.State.{Tables, Ret, is, andThen}
 use Rattle.machine.specs.Machine.{onBit}
-use Rattle.nodes.specs.Trees.{place}
-use Rattle.machine.specs.Codes.{sameName, Spelled, Coded}
-use Rattle.machine.specs.Leaves.{walk}
 use Rattle.machine.proofs.Lists.{Asks, asks-yes, asks-no}
-use Rattle.machine.proofs.Relation.{Stage, Kept, Thing, Old, Rep, v-num, v-fun, v-rec, v-proc, v-proc-rec, v-adr, e-none, e-bound, ValR, EnvR, Found, found, lost, CellR, c-unset, c-set, Waits, w-none, w-more, R, Grow, Sim, goes, stops, no-way, Spent, Made, Some, Waiting, code, name-in}
-
-less-one : (k : ℕ) → suc k - 1 ≡ k
-less-one k = omega arith
-
-walk-suc : (b : List ℕ) (c n k : ℕ) → walk b c (suc n) (suc k) ≡
-    pick (eqb (bindingAt b k .name) c) (λ _. Value (bindingAt b k .tag) (bindingAt b k .word)) λ _. walk b c n (bindingAt b k .link)
-unfolding walk pick
-walk-suc b c n k = rw (eqb·suc-zero k, less-one k)
+use Rattle.machine.proofs.Relation.{Stage, Kept, Thing, Old, Rep, v-num, v-fun, v-rec, v-proc, v-proc-rec, v-adr, e-none, e-bound, ValR, EnvR, CellR, c-unset, c-set, Waits, w-none, w-more, R, Grow, Sim, goes, stops, no-way, Spent, Made, Some, Waiting}
+use Rattle.machine.proofs.Steps.{more}
 
 pub bind-ok : {A B : Type 0} (a : A) (s : State) (k : A → State → Outcome B) → bind (ok a s) k ≡ k a s
 unfolding bind
@@ -53,14 +43,14 @@ module _ {g : Stage} where
   pub keep : {b b′ : List ℕ} {c c′ : ℕ} {x : Thing} → Rep g b c x → c ≤ c′ → Old b c b′ → Rep g b′ c′ x
   keep (v-num x) h o = v-num x
   keep (v-fun p e n) h o = v-fun p e (keep n h o)
-  keep (v-rec a p e n) h o = v-rec a p e (keep n h o)
+  keep (v-rec p e n) h o = v-rec p e (keep n h o)
   keep (v-proc p e n) h o = v-proc p e (keep n h o)
-  keep (v-proc-rec a p e n) h o = v-proc-rec a p e (keep n h o)
+  keep (v-proc-rec p e n) h o = v-proc-rec p e (keep n h o)
   keep v-adr h o = v-adr
   keep e-none h o = e-none
-  keep (e-bound {k = k} a l e u n) h o =
-      e-bound a (le-trans l h) (o k l ∙ e) (keep u (le-refl _) (λ j s. o j (le-trans s (omega arith))))
-      (keep n (le-refl _) (λ j s. o j (le-trans s (omega arith))))
+  keep (e-bound {k = k} l e u n q w j) h o =
+      e-bound (le-trans l h) (o k l ∙ e) (keep u (le-refl _) (λ j s. o j (le-trans s (omega arith))))
+      (keep n (le-refl _) (λ j s. o j (le-trans s (omega arith)))) q w (keep j (le-refl _) (λ j s. o j (le-trans s (omega arith))))
 
   pub cell-keep : {b b′ : List ℕ} {c c′ : ℕ} {o : Option Val} {r : Row} → CellR g b c o r → c ≤ c′ → Old b c b′ → CellR g b′ c′ o r
   cell-keep c-unset h o = c-unset
@@ -73,38 +63,15 @@ module _ {g : Stage} where
   -- an environment's number is at most the number of bindings
   pub env-in : {b : List ℕ} {c n : ℕ} {ρ : Env} → EnvR g b c ρ n → n ≤ c
   env-in e-none = omega arith
-  env-in (e-bound a l e u n) = l
+  env-in (e-bound l e u n q w j) = l
 
   pub tag-small : {b : List ℕ} {c t x : ℕ} {u : Val} → ValR g b c u t x → t < 65536
   tag-small (v-num x) = omega arith
   tag-small (v-fun p e n) = omega arith
-  tag-small (v-rec a p e n) = omega arith
+  tag-small (v-rec p e n) = omega arith
   tag-small (v-proc p e n) = omega arith
-  tag-small (v-proc-rec a p e n) = omega arith
+  tag-small (v-proc-rec p e n) = omega arith
   tag-small v-adr = omega arith
-
-  -- ---- the chain of bindings is the rules' environment
-
-  found-up : {b : List ℕ} {k c : ℕ} {o : Option Val} {a : Ending} → k ≤ c → Found g b k o a → Found g b c o a
-  found-up h (found u) = found (keep u h (λ j s. refl))
-  found-up h lost = lost
-
-  found-pick : {b : List ℕ} {c : ℕ} (s : Bool) {u : Val} {t x : ℕ} {o : Option Val} {a : Ending} → ValR g b c u t x → Found g b c o a →
-      Found g b c (cond s (some u) o) (pick s (λ _. Value t x) λ _. a)
-  unfolding pick
-  found-pick true u h = found u
-  found-pick false u h = h
-
-  pub walk-finds : Coded g.script g.codes → {b : List ℕ} {c : ℕ} {ρ : Env} {e : ℕ} → EnvR g b c ρ e → {q : ℕ} → Spelled g.script q → first-free ≤ code g q → (n : ℕ) → c ≤ n →
-      Found g b c (lookup-env ρ (name-in g (place g.script q))) (walk b (code g q) n e)
-  unfolding walk pick sameName
-  walk-finds d e-none z f zero h = lost
-  walk-finds d e-none z f (suc n) h = lost
-  walk-finds d (e-bound a l e u m) z f zero h = absurd (not-suc-le-zero (le-trans l h))
-  walk-finds d {b} (e-bound {k = k} {i = i} a l e u m) {q} z f (suc n) h =
-      rw (walk-suc b (code g q) n k, e, d .same a z f)
-      (found-pick (sameName (g.script .text) (place g.script i) (place g.script q)) (keep u (omega arith) (λ j s. refl))
-      (found-up (omega arith) (walk-finds d m z f n (omega arith))))
 
   -- ---- states that go on
 
@@ -282,17 +249,17 @@ module _ {g : Stage} where
   pub asks-num : {b : List ℕ} {c t x : ℕ} {u : Val} → ValR g b c u t x → Asks (λ z. z ≡ toZ w64 x) (as-number u) (eqb t number-tag)
   asks-num (v-num x) = asks-yes refl
   asks-num (v-fun p e n) = asks-no
-  asks-num (v-rec a p e n) = asks-no
+  asks-num (v-rec p e n) = asks-no
   asks-num (v-proc p e n) = asks-no
-  asks-num (v-proc-rec a p e n) = asks-no
+  asks-num (v-proc-rec p e n) = asks-no
   asks-num v-adr = asks-no
 
   pub asks-address : {b : List ℕ} {c t x : ℕ} {u : Val} → ValR g b c u t x → Asks (λ a. a ≡ x) (as-address u) (eqb t address-tag)
   asks-address (v-num x) = asks-no
   asks-address (v-fun p e n) = asks-no
-  asks-address (v-rec a p e n) = asks-no
+  asks-address (v-rec p e n) = asks-no
   asks-address (v-proc p e n) = asks-no
-  asks-address (v-proc-rec a p e n) = asks-no
+  asks-address (v-proc-rec p e n) = asks-no
   asks-address v-adr = asks-yes refl
 
 -- a word of 2 and more is no bit
@@ -315,7 +282,7 @@ module _ {g : Stage} {B : Type 0} {P : B → (t x : ℕ) → Tables → Type 0} 
   unfolding need pick onBit
   sim-bit p (v-num x) s h k = word-bit x p s h k
   sim-bit p (v-fun q e n) s h k = no-way s
-  sim-bit p (v-rec a q e n) s h k = no-way s
+  sim-bit p (v-rec q e n) s h k = no-way s
   sim-bit p (v-proc q e n) s h k = no-way s
-  sim-bit p (v-proc-rec a q e n) s h k = no-way s
+  sim-bit p (v-proc-rec q e n) s h k = no-way s
   sim-bit p v-adr s h k = no-way s

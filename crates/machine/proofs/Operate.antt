@@ -126,9 +126,9 @@ module _ {g : Stage} where
   unfolding need negated pick
   one-negated p (v-num x) r = bit-negated x p r
   one-negated p (v-fun q e n) r = no-way r
-  one-negated p (v-rec z q e n) r = no-way r
+  one-negated p (v-rec q e n) r = no-way r
   one-negated p (v-proc q e n) r = no-way r
-  one-negated p (v-proc-rec z q e n) r = no-way r
+  one-negated p (v-proc-rec q e n) r = no-way r
   one-negated p v-adr r = no-way r
 
   -- ---- the operators of two numbers

@@ -4,7 +4,6 @@ use mathlib.Core.Bool.{Bool, true, cond}
 use mathlib.Core.List.{List}
 use lib.Dec.{eqb, ltb, leb}
 use lib.IntN.{ℤ, pos, _+ℤ_, _-ℤ_, _*ℤ_}
-use lib.ListN.{getD}
 use lib.Signed.{ltZ}
 use mir.Syntax.{w64}
 use mir.Val.{toZ, ofZ}
@@ -12,28 +11,49 @@ use Rattle.language.specs.Answers.{ZERO, error, stop-number}
 use Rattle.language.specs.Numbers.{Computed, amount, fails, ranged, quotient, same-number, bit}
 use Rattle.nodes.specs.Nodes.{nodeAt}
 use Rattle.machine.specs.declared.Row.{Row}
+use Rattle.machine.specs.declared.Binding.{Binding}
 use Rattle.machine.specs.declared.Ending.{Ending}
 use Rattle.machine.specs.declared.Ending.the-variants.{Value, Stop, NoRule}
-use Rattle.machine.specs.Entries.{pick, number-tag, function-tag, recursive-function-tag, procedure-tag, recursive-procedure-tag, address-tag, unset-tag, done-tag, first-free, rowAfter, rowAt, binding, bindingAt, putBinding, nodeOf, envOf}
-use Rattle.machine.specs.State.{Run, codeAt, Tables, Ret, is, andThen, ifValue, bind, newCell}
+use Rattle.machine.specs.Entries.{pick, number-tag, function-tag, recursive-function-tag, procedure-tag, recursive-procedure-tag, address-tag, unset-tag, done-tag, first-free, most-steps, rowAfter, rowAt, binding, bindingAt, putBinding, nodeOf, envOf}
+use Rattle.machine.specs.State.{Run, Tables, Ret, is, andThen, ifValue, bind, newCell}
 
 -- ---- names
 
--- the value of the name with the code c, by the chain of at most n bindings that starts at env
+-- the code of the latest binding of env: how many are in force there, counted from `first-free` on
+unfoldable pub codeIn : (bindings : List ℕ) (env : ℕ) → ℕ
+codeIn b env = pick (eqb env 0) (λ _. first-free) λ _. bindingAt b (env - 1) .code
+
+-- the environment to which the latest binding of env jumps
+unfoldable pub jumpIn : (bindings : List ℕ) (env : ℕ) → ℕ
+jumpIn b env = pick (eqb env 0) (λ _. 0) λ _. bindingAt b (env - 1) .jump
+
+-- where a binding behind env jumps to: over the two jumps from env at once where they are equally long, else to env
+unfoldable pub jumpFrom : (bindings : List ℕ) (env : ℕ) → ℕ
+jumpFrom b env =
+    let j = jumpIn b env in
+    let k = jumpIn b j in
+    pick (eqb (codeIn b env + codeIn b k) (codeIn b j + codeIn b j)) (λ _. k) λ _. env
+
+-- a binding of the value t x behind env
+unfoldable pub bindingBehind : (bindings : List ℕ) (tag word env : ℕ) → Binding
+bindingBehind b t x env = binding (suc (codeIn b env)) t x env (jumpFrom b env)
+
+-- the value of the binding with the code c, in at most n steps from env on: a jump, where that does not lead past it, or one binding further
 unfoldable pub walk : (bindings : List ℕ) (c n env : ℕ) → Ending
 walk b c zero env = NoRule
 walk b c (suc n) env =
     pick (eqb env 0) (λ _. NoRule) λ _.
-    pick (eqb (bindingAt b (env - 1) .name) c) (λ _. Value (bindingAt b (env - 1) .tag) (bindingAt b (env - 1) .word)) λ _.
+    pick (eqb (bindingAt b (env - 1) .code) c) (λ _. Value (bindingAt b (env - 1) .tag) (bindingAt b (env - 1) .word)) λ _.
+    pick (leb c (codeIn b (bindingAt b (env - 1) .jump))) (λ _. walk b c n (bindingAt b (env - 1) .jump)) λ _.
     walk b c n (bindingAt b (env - 1) .link)
 
 -- what the name with the code c is bound to; the nine are bound to nothing
-unfoldable pub boundTo : (bindings : List ℕ) (c n env : ℕ) → Ending
-boundTo b c n env = pick (ltb c first-free) (λ _. NoRule) λ _. walk b c n env
+unfoldable pub boundTo : (bindings : List ℕ) (c env : ℕ) → Ending
+boundTo b c env = pick (ltb c first-free) (λ _. NoRule) λ _. walk b c most-steps env
 
 -- the cell that the name with the code c is bound to
-unfoldable pub addressOf : (bindings : List ℕ) (c n env : ℕ) → Ending
-addressOf b c n env = ifValue (boundTo b c n env) λ t a. pick (eqb t address-tag) (λ _. Value address-tag a) λ _. NoRule
+unfoldable pub addressOf : (bindings : List ℕ) (c env : ℕ) → Ending
+addressOf b c env = ifValue (boundTo b c env) λ t a. pick (eqb t address-tag) (λ _. Value address-tag a) λ _. NoRule
 
 -- what a name stands for that is bound to a value: an address is read through, of the first n cells
 unfoldable pub readThrough : (cells : List ℕ) (n p tag word : ℕ) → Ending
@@ -42,12 +62,12 @@ readThrough c n p t x =
     pick (ltb x n) (λ _. pick (eqb (rowAt c x .tag) unset-tag) (λ _. Stop 27 p) λ _. Value (rowAt c x .tag) (rowAt c x .word)) λ _. NoRule)
     λ _. Value t x
 
--- the value of the name at p with the code c, under n bindings and so many cells taken
-unfoldable pub nameValue : (bindings cells : List ℕ) (c p n taken env : ℕ) → Ending
-nameValue b cells c p n taken env =
+-- the value of the name at p with the code c, with so many cells taken
+unfoldable pub nameValue : (bindings cells : List ℕ) (c p taken env : ℕ) → Ending
+nameValue b cells c p taken env =
     pick (ltb c first-free)
     (λ _. pick (eqb c 1) (λ _. Value number-tag 1) λ _. pick (eqb c 2) (λ _. Value number-tag 0) λ _. NoRule)
-    λ _. ifValue (walk b c n env) λ t x. readThrough cells taken p t x
+    λ _. ifValue (walk b c most-steps env) λ t x. readThrough cells taken p t x
 
 -- ---- numbers
 
@@ -99,12 +119,11 @@ module _ (tree : List ℕ) where
   bodyAfter zero q = pick (isParam (nodeAt tree q .kind)) (λ _. NoRule) λ _. Value done-tag q
   bodyAfter (suc n) q = pick (isParam (nodeAt tree q .kind)) (λ _. bodyAfter n (nodeAt tree q .next)) λ _. NoRule
 
-module _ (tree codes : List ℕ) where
   -- the n parameters from q on are bound to what waits from sp on, as the bindings k, k + 1, ..
   unfoldable pub bindAll : (n q sp : ℕ) (waiting : List ℕ) (k env : ℕ) (bindings : List ℕ) → Opened
   bindAll zero q sp w k env b = record { env = env; bindings = b }
   bindAll (suc n) q sp w k env b =
-      bindAll n (nodeAt tree q .next) (rowAfter sp) w (suc k) (suc k) (putBinding b k (binding (nodeAt tree q .place) (getD codes q 0) (rowAt w sp .tag) (rowAt w sp .word) env))
+      bindAll n (nodeAt tree q .next) (rowAfter sp) w (suc k) (suc k) (putBinding b k (bindingBehind b (rowAt w sp .tag) (rowAt w sp .word) env))
 
 module _ (g : Run) where
   -- a call at p, by n values that wait from sp on, of what has its first parameter at q and the names of env: the environment and the body's node
@@ -112,7 +131,7 @@ module _ (g : Run) where
   enter p n sp q env m =
       andThen (is (bodyAfter g.tree n q) m) λ _ body m.
       pick (leb (n + m .counts .bindings) (g.bounds .bindings)) (λ _.
-      let o = bindAll g.tree g.codes n q sp (m .waiting) (m .counts .bindings) env (m .bindings) in is (Value (o .env) body) (bind n (o .bindings) m))
+      let o = bindAll g.tree n q sp (m .waiting) (m .counts .bindings) env (m .bindings) in is (Value (o .env) body) (bind n (o .bindings) m))
       λ _. is (Stop 23 p) m
 
   -- the same of a closure that knows its name: that is bound last, to the closure itself
@@ -120,9 +139,9 @@ module _ (g : Run) where
   enterAgain p n sp q t x m =
       andThen (is (bodyAfter g.tree n q) m) λ _ body m.
       pick (leb (suc n + m .counts .bindings) (g.bounds .bindings)) (λ _.
-      let o = bindAll g.tree g.codes n q sp (m .waiting) (m .counts .bindings) (envOf x) (m .bindings) in
+      let o = bindAll g.tree n q sp (m .waiting) (m .counts .bindings) (envOf x) (m .bindings) in
       is (Value (suc (n + m .counts .bindings)) body)
-      (bind (suc n) (putBinding (o .bindings) (n + m .counts .bindings) (binding (nodeAt g.tree (nodeOf x) .place) (codeAt g (nodeOf x)) t x (o .env))) m))
+      (bind (suc n) (putBinding (o .bindings) (n + m .counts .bindings) (bindingBehind (o .bindings) t x (o .env))) m))
       λ _. is (Stop 23 p) m
 
   -- the value t x is applied: only a function can be. Behind a name that a closure knows stand a type and the parameters
@@ -139,14 +158,14 @@ module _ (g : Run) where
       pick (eqb t recursive-procedure-tag) (λ _. enterAgain p n sp (nodeAt g.tree (nodeOf x) .next) t x m) λ _.
       is NoRule m
 
-  -- the definition at p makes one binding, of the name i: the answer is the environment after it
-  unfoldable pub define : (p i tag word env : ℕ) → Tables → Ret
-  define p i t x env m =
+  -- the definition at p makes one binding: the answer is the environment after it
+  unfoldable pub define : (p tag word env : ℕ) → Tables → Ret
+  define p t x env m =
       pick (leb (suc (m .counts .bindings)) (g.bounds .bindings))
-      (λ _. is (Value done-tag (suc (m .counts .bindings))) (bind 1 (putBinding (m .bindings) (m .counts .bindings) (binding (nodeAt g.tree i .place) (codeAt g i) t x env)) m))
+      (λ _. is (Value done-tag (suc (m .counts .bindings))) (bind 1 (putBinding (m .bindings) (m .counts .bindings) (bindingBehind (m .bindings) t x env)) m))
       λ _. is (Stop 23 p) m
 
-  -- the VAR at p, of the name i: a cell, then a binding
-  unfoldable pub defineCell : (p i env : ℕ) → Tables → Ret
-  defineCell p i env m =
-      pick (ltb (m .counts .cells) (g.bounds .cells)) (λ _. define p i address-tag (m .counts .cells) env (newCell m)) λ _. is (Stop 22 p) m
+  -- the VAR at p: a cell, then a binding
+  unfoldable pub defineCell : (p env : ℕ) → Tables → Ret
+  defineCell p env m =
+      pick (ltb (m .counts .cells) (g.bounds .cells)) (λ _. define p address-tag (m .counts .cells) env (newCell m)) λ _. is (Stop 22 p) m

@@ -77,13 +77,13 @@ module _ (g : Run) where
   unfoldable pub exprBy : (k c : ℕ) → Evaluators → (env sp : ℕ) → Node → Tables → Ret
   exprBy k c S env sp n m =
       pick (eqb k 18) (λ _. is (Value number-tag c) m) λ _.
-      pick (eqb k 19) (λ _. is (nameValue (m .bindings) (m .cells) c (n .place) (m .counts .bindings) (m .counts .cells) env) m) λ _.
+      pick (eqb k 19) (λ _. is (nameValue (m .bindings) (m .cells) c (n .place) (m .counts .cells) env) m) λ _.
       pick (eqb k 20) (λ _. ifE S env sp n m) λ _.
       pick (eqb k 21) (λ _. andE S env sp n m) λ _.
       pick (eqb k 22) (λ _. orE S env sp n m) λ _.
       pick (eqb k 23) (λ _. applyE c S env sp n m) λ _.
       pick (eqb k 24) (λ _. is (Value function-tag (closureWord (n .child) env)) m) λ _.
-      pick (eqb k 25) (λ _. is (addressOf (m .bindings) (codeAt g (n .child)) (m .counts .bindings) env) m) λ _.
+      pick (eqb k 25) (λ _. is (addressOf (m .bindings) (codeAt g (n .child)) env) m) λ _.
       is NoRule m
 
   -- ---- commands: the answer is the environment after them
@@ -91,7 +91,7 @@ module _ (g : Run) where
   unfoldable pub constC : Evaluators → (env sp : ℕ) → Node → Tables → Ret
   constC S env sp n m =
       andThen (S .expr env sp (nodeAt g.tree (nodeAt g.tree (n .child) .next) .next) m) λ t x m₁.
-      define g (n .place) (n .child) t x env m₁
+      define g (n .place) t x env m₁
 
   unfoldable pub echoC : Evaluators → (env sp : ℕ) → Node → Tables → Ret
   echoC S env sp n m =
@@ -102,7 +102,7 @@ module _ (g : Run) where
 
   unfoldable pub setC : Evaluators → (env sp : ℕ) → Node → Tables → Ret
   setC S env sp n m =
-      andThen (is (addressOf (m .bindings) (codeAt g (n .child)) (m .counts .bindings) env) m) λ _ a m.
+      andThen (is (addressOf (m .bindings) (codeAt g (n .child)) env) m) λ _ a m.
       andThen (S .expr env sp (nodeAt g.tree (n .child) .next) m) λ t x m₁.
       pick (ltb a (m₁ .counts .cells)) (λ _. is (Value done-tag env) (store a t x m₁)) λ _. is NoRule m₁
 
@@ -119,7 +119,7 @@ module _ (g : Run) where
   -- a procedure called: name, arguments, bindings, block
   unfoldable pub callC : Evaluators → (env sp : ℕ) → Node → Tables → Ret
   callC S env sp n m =
-      andThen (is (boundTo (m .bindings) (codeAt g (n .child)) (m .counts .bindings) env) m) λ t x m.
+      andThen (is (boundTo (m .bindings) (codeAt g (n .child)) env) m) λ t x m.
       andThen (allArgs S env sp (nodeAt g.tree (n .child) .next) m) λ _ k m₁.
       andThen (openProcedure g (n .place) k sp t x m₁) λ env₁ i m₂.
       blockC S env env₁ sp i m₂
@@ -142,11 +142,11 @@ module _ (g : Run) where
   cmdBy k S env sp n m =
       let x = nodeAt g.tree (n .child) in
       pick (eqb k 2) (λ _. constC S env sp n m) λ _.
-      pick (eqb k 3) (λ _. define g (n .place) (n .child) function-tag (closureWord (nodeAt g.tree (x .next) .next) env) env m) λ _.
-      pick (eqb k 4) (λ _. define g (n .place) (n .child) recursive-function-tag (closureWord (n .child) env) env m) λ _.
-      pick (eqb k 5) (λ _. defineCell g (n .place) (n .child) env m) λ _.
-      pick (eqb k 6) (λ _. define g (n .place) (n .child) procedure-tag (closureWord (x .next) env) env m) λ _.
-      pick (eqb k 7) (λ _. define g (n .place) (n .child) recursive-procedure-tag (closureWord (n .child) env) env m) λ _.
+      pick (eqb k 3) (λ _. define g (n .place) function-tag (closureWord (nodeAt g.tree (x .next) .next) env) env m) λ _.
+      pick (eqb k 4) (λ _. define g (n .place) recursive-function-tag (closureWord (n .child) env) env m) λ _.
+      pick (eqb k 5) (λ _. defineCell g (n .place) env m) λ _.
+      pick (eqb k 6) (λ _. define g (n .place) procedure-tag (closureWord (x .next) env) env m) λ _.
+      pick (eqb k 7) (λ _. define g (n .place) recursive-procedure-tag (closureWord (n .child) env) env m) λ _.
       pick (eqb k 8) (λ _. echoC S env sp n m) λ _.
       pick (eqb k 9) (λ _. setC S env sp n m) λ _.
       pick (eqb k 10) (λ _. ifC S env sp n m) λ _.
