@@ -12,6 +12,7 @@ use borrow.Author.Tests.{ne-eqb, eq-eqb}
 use Rattle.language.specs.Syntax.{Name, at, TypeTree, Arg, arg, ArgP, Expr, num, name, if-expr, and, or, app, abs, Exprs, one-expr, more-exprs, ExprP, Cmds, last, def-then, stat-then, Def, const, fun, fun-rec, var, proc, proc-rec, Stat, echo, if-stat, while, call, Block, block}
 use Rattle.language.specs.Syntax as Syntax
 use Rattle.language.specs.Names.{head-operator}
+use Rattle.language.specs.Numbers.{ranged}
 use Rattle.language.specs.Places.{place-ident}
 use Rattle.language.specs.Types.{values, param-names}
 use Rattle.language.specs.Table.{Forest, leaf, fork, size, first, shapeType, shapeArg, shapeArgs, shapeArgP, shapeArgsP, shapeExpr, shapeExprs, shapeExprP, shapeExprsP, shapeCmds, shapeDef, shapeStat, shapeBlock}
@@ -23,7 +24,7 @@ use Rattle.nodes.proofs.Laws.{type-there, params-there, expr-there}
 use Rattle.nodes.proofs.Program.{few-nodes, laid-program, root}
 use Rattle.machine.specs.Entries.{pick}
 use Rattle.machine.specs.Leaves.{isParam}
-use Rattle.machine.specs.Codes.{codeOf, operatorNo, extended, defined, Used, CodedE, CodedEs, CodedA, CodedAs, CodedCs, CodedD, CodedS, CodedB, Coded, most-nodes, nameOf, operatorAt, codeFor, after, ownOf, entry, rowCodes, codesOf}
+use Rattle.machine.specs.Codes.{codeOf, operatorNo, numberWord, extended, defined, Used, CodedE, CodedEs, CodedA, CodedAs, CodedCs, CodedD, CodedS, CodedB, Coded, most-nodes, nameOf, operatorAt, codeFor, after, ownOf, entry, rowCodes, codesOf}
 
 -- a function's parameters as a procedure's
 shape-values : (ps : List Arg) (z : Forest) → shapeArgs ps z ≡ shapeArgsP (values ps) z
@@ -225,8 +226,8 @@ module _ (g : Script) (codes : List ℕ) where
       Scoped (after g (kind g i) i (entry g own i Γ)) own (next g i) s
   fork-of (sc-fork c x h) = (c, x, h)
 
-  in-num : {i p : ℕ} {z : ℤ} → AtE g i (num p z) → (kind g i ≡ 18) × (numberAt g.text (place g i) ≡ z)
-  in-num (at-num k n) = (k .kind-is, refl)
+  in-num : {i p : ℕ} {z : ℤ} → AtE g i (num p z) → (kind g i ≡ 18) × (numberWord (ranged (numberAt g.text (place g i))) ≡ ofZ w64 z)
+  in-num (at-num k n) = (k .kind-is, rw (n .ranged))
 
   in-name : {i p : ℕ} {x : Name} → AtE g i (name (at p x)) → (kind g i ≡ 19) × (nameOf g i ≡ x)
   in-name (at-name k) = (k .kind-is, refl)
@@ -257,7 +258,7 @@ module _ (g : Script) (codes : List ℕ) where
     unfolding shapeExpr entry ownOf codeFor pick
 
     coded-expr : (e : Expr) {i : ℕ} {Γ : List Name} (s : Forest) → AtE g i e → Scoped Γ none i (shapeExpr e s) → CodedE g codes Γ i e
-    coded-expr (num p z) {i} {Γ} s a h = let v = in-num a in code-by i 18 Γ (v .0) (leaf-of h) ∙ ap (ofZ w64) (v .1)
+    coded-expr (num p z) {i} {Γ} s a h = let v = in-num a in code-by i 18 Γ (v .0) (leaf-of h) ∙ v .1
     coded-expr (name (at p x)) {i} {Γ} s a h = let v = in-name a in record { code-is = code-by i 19 Γ (v .0) (leaf-of h) ∙ ap (codeOf Γ) (v .1) }
     coded-expr (if-expr p a b c) {i} s t h =
         let v = in-if t in let x = kids-of i 20 (v .0) (fork-of h .1) in let y = past-expr _ (v .1) x in
@@ -408,3 +409,14 @@ module _ (g : Script) (codes : List ℕ) where
 
   pub codes-right : {b : Block} → ReadAs g b → ((i : ℕ) → getD codes i 0 ≡ getD (codesOf g) i 0) → Coded g codes b
   codes-right r h = of-root (root r) (laid-program r) (few-nodes r) (from-all (codesOf g) 0 (λ k. ap (λ (i : ℕ). getD codes i 0) (omega arith) ∙ h k))
+
+-- a text that reads has a code for each node and no more: past the tree's words there is none
+module _ (g : Script) where
+  root-length : (b : Block) → Laid g.tree (shapeBlock b F.none) 0 → size (shapeBlock b F.none) ≤ most-nodes → length (codesOf g) ≡ size (shapeBlock b F.none)
+  unfolding shapeBlock size codesOf
+  root-length (block p cs) (laid-fork x l m) h =
+      let r = row-length g l (λ e. omega (arith, e)) most-nodes [] none (omega (arith, h)) in
+      rw (x .child-is) (omega (arith, r))
+
+  pub codes-fit : {b : Block} → ReadAs g b → length (codesOf g) ≤ most-nodes
+  codes-fit {b} r = let e = root-length b (laid-program r) (few-nodes r) in let h = few-nodes r in omega (arith, e, h)

@@ -12,6 +12,7 @@ use mir.Val.{ofZ}
 use Rattle.language.specs.Bytes.{same-bytes}
 use Rattle.language.specs.Syntax.{Name, at, Expr, num, name, if-expr, and, or, app, abs, Exprs, one-expr, more-exprs, ExprP, val, adr, Cmds, last, def-then, stat-then, Def, const, fun, fun-rec, var, proc, proc-rec, Stat, echo, set, if-stat, while, call, Block, block}
 use Rattle.language.specs.Names.{Op, Meaning, literal, operator, free, meaning, operator-of, head-operator}
+use Rattle.language.specs.Numbers.{Computed, amount, fails, ranged}
 use Rattle.language.specs.Words.{nameAt}
 use Rattle.language.specs.Types.{values, param-names}
 use Rattle.nodes.specs.Names.{meaningNo}
@@ -46,6 +47,11 @@ codeOf Γ x = codeBy (meaning x) (levelIn Γ x)
 abbrev pub operatorNo : Option Op → ℕ
 operatorNo none = 0
 operatorNo (some f) = meaningNo (operator f)
+
+-- the code of a number: its word; one outside the range, which no text that reads has, has 0
+abbrev pub numberWord : Computed → ℕ
+numberWord (amount z) = ofZ w64 z
+numberWord (fails x) = 0
 
 -- with parameters
 abbrev pub extended : List Name → List Name → List Name
@@ -138,7 +144,7 @@ module _ (g : Script) where
   -- the code of the node i of kind k, where the names Γ are in force
   unfoldable pub codeFor : (k i : ℕ) → List Name → ℕ
   codeFor k i Γ =
-      pick (eqb k 18) (λ _. ofZ w64 (numberAt g.text (place g i))) λ _.
+      pick (eqb k 18) (λ _. numberWord (ranged (numberAt g.text (place g i)))) λ _.
       pick (eqb k 19) (λ _. codeOf Γ (nameOf i)) λ _.
       pick (eqb k 23) (λ _. operatorAt (kind g (child g i)) (child g i)) λ _. 0
 
