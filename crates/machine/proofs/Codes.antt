@@ -33,12 +33,12 @@ shape-values [] z = refl
 shape-values (arg x t ∷ ps) z = ap (λ s. fork 13 (place-ident x) (shapeType t F.none) s) (shape-values ps z)
 
 module _ (g : Script) where
-  row-none : (k : ℕ) (Γ : List Name) (own : Option Name) → rowCodes g k Γ own 0 ≡ []
+  pub row-none : (k : ℕ) (Γ : List Name) (own : Option Name) → rowCodes g k Γ own 0 ≡ []
   unfolding rowCodes pick
   row-none zero Γ own = refl
   row-none (suc k) Γ own = refl
 
-  row-suc : (k : ℕ) (Γ : List Name) (own : Option Name) (i : ℕ) → (i ≡ 0 → ⊥) → rowCodes g (suc k) Γ own i ≡
+  pub row-suc : (k : ℕ) (Γ : List Name) (own : Option Name) (i : ℕ) → (i ≡ 0 → ⊥) → rowCodes g (suc k) Γ own i ≡
       codeFor g (kind g i) i (entry g own i Γ) ∷
       rowCodes g k (entry g own i Γ) (ownOf g (kind g i) i) (child g i) ++ rowCodes g k (after g (kind g i) i (entry g own i Γ)) own (next g i)
   unfolding rowCodes pick
