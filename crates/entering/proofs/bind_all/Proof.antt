@@ -43,12 +43,12 @@ loop-less c = search needs
 
 loop-again : tie.Need-loop-again Inv-loop μ-loop
 loop-again c = (
-      bind-goes-on _ _ _ _ _ _ _ _ _ _ _ _ (c .before .before .before .before .before .before .before .loop-test .taken) (c .before .before .before .before .before .before .next-at .ensures) (c .before .before .before .before .before .row-at .ensures) (c .before .before .before .add-binding .ensures) (c .row-after .ensures .0) ∙
-          c .before .before .before .before .before .before .before .before .loop .inv .0,
-      omega arith,
-      c .row-after .ensures .1,
-      omega (arith, c .before .before .before .add-binding .kept, c .before .before .before .before .before .before .before .before .loop .inv),
-    )
+  bind-goes-on _ _ _ _ _ _ _ _ _ _ _ _ (c .before .before .before .before .before .before .before .loop-test .taken) (c .before .before .before .before .before .before .next-at .ensures) (c .before .before .before .before .before .row-at .ensures) (c .before .before .before .add-binding .ensures) (c .row-after .ensures .0) ∙
+      c .before .before .before .before .before .before .before .before .loop .inv .0,
+  omega arith,
+  c .row-after .ensures .1,
+  omega (arith, c .before .before .before .add-binding .kept, c .before .before .before .before .before .before .before .before .loop .inv),
+)
 
 same-length : tie.Need-same-length Inv-loop μ-loop
 same-length c = c .before .loop .inv .3

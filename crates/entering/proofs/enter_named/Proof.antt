@@ -19,12 +19,11 @@ has-room-for-name-requires : tie.Need-has-room-for-name-requires
 has-room-for-name-requires c κs = search needs
 
 returns : tie.Need-returns
-returns c =
-    (
-      (λ v k o. named-full _ _ _ _ _ _ _ (c .before .before .before .before .before .body-after .ensures) _ _ _ _ (c .before .before .before .found .given .1) _ (c .before .has-room-for-name .ensures) (not-true
-          (c .before .has-room-for-name .result) (c .if1 .taken))),
-      refl,
-    )
+returns c = (
+  (λ v k o. named-full _ _ _ _ _ _ _ (c .before .before .before .before .before .body-after .ensures) _ _ _ _ (c .before .before .before .found .given .1) _ (c .before .has-room-for-name .ensures) (not-true
+      (c .before .has-room-for-name .result) (c .if1 .taken))),
+  refl,
+)
 
 env-of-requires : tie.Need-env-of-requires
 env-of-requires c κs = search needs
@@ -81,12 +80,11 @@ same-length : tie.Need-same-length
 same-length c = search needs
 
 returns-2 : tie.Need-returns-2
-returns-2 c =
-    (
-      (λ v k o. named-some _ _ _ _ _ _ _ (c .before .before .before .before .before .before .before .before .before .before .before .before .before .before .before .body-after .ensures) _ _ _ _ (c .before .before .before .before .before .before .before .before .before .before .before .before .before .found .given .1) _ (c .before .before .before .before .before .before .before .before .before .before .before .has-room-for-name .ensures) (not-false
-          (c .before .before .before .before .before .before .before .before .before .before .before .has-room-for-name .result) (c .before .before .before .before .before .before .before .before .before .before .if1 .left)) _ _ _ _ _ (c .before .before .before .before .before .before .before .before .env-of .ensures) (c .before .before .before .before .before .before .before .bind-all .ensures) (c .before .before .before .add-binding .ensures) (c .bound .ensures)),
-      rw (c .bound .ensures),
-    )
+returns-2 c = (
+  (λ v k o. named-some _ _ _ _ _ _ _ (c .before .before .before .before .before .before .before .before .before .before .before .before .before .before .before .body-after .ensures) _ _ _ _ (c .before .before .before .before .before .before .before .before .before .before .before .before .before .found .given .1) _ (c .before .before .before .before .before .before .before .before .before .before .before .has-room-for-name .ensures) (not-false
+      (c .before .before .before .before .before .before .before .before .before .before .before .has-room-for-name .result) (c .before .before .before .before .before .before .before .before .before .before .if1 .left)) _ _ _ _ _ (c .before .before .before .before .before .before .before .before .env-of .ensures) (c .before .before .before .before .before .before .before .bind-all .ensures) (c .before .before .before .add-binding .ensures) (c .bound .ensures)),
+  rw (c .bound .ensures),
+)
 
 returns-3 : tie.Need-returns-3
 returns-3 c = ((λ v k o. named-not _ _ _ _ _ _ _ (c .before .body-after .ensures) _ _ (c .match .keys2)), refl)
