@@ -15,9 +15,9 @@ use Rattle.machine.specs.declared.Row.{Row}
 use Rattle.machine.specs.declared.Counts.{Counts}
 use Rattle.machine.specs.declared.Ending.{Ending}
 use Rattle.machine.specs.declared.Ending.the-variants.{Value, Stop, NoRule}
-use Rattle.machine.specs.Entries.{pick, rowAfter, rowAt, putRow, binding, putBinding, closureWord, nodeOf, envOf}
+use Rattle.machine.specs.Entries.{pick, rowAfter, rowAt, putRow, putBinding, closureWord, nodeOf, envOf}
 use Rattle.machine.specs.State.{Run, Tables, tables, Ret, is, onValue, andThen, spend}
-use Rattle.machine.specs.Leaves.{isParam, bodyAfter, bindAll, enter, enterAgain, openFunction, openProcedure, define, defineCell}
+use Rattle.machine.specs.Leaves.{bindingBehind, isParam, bodyAfter, bindAll, enter, enterAgain, openFunction, openProcedure, define, defineCell}
 use Rattle.machine.proofs.Ending.{the-type}
 use Rattle.machine.proofs.Members.{no-unit, no-level, goes-in}
 use Rattle.entering.specs.Opening.{guarded, opened, withBindings, definitionBy, definition, opens}
@@ -90,12 +90,12 @@ module _ (tree : List ℕ) (k q : ℕ) where
       body-found h = rw (none, ← kind-is, ← t-is, h)
 
 module _ (tree w : List ℕ) (left at from next within : ℕ) (b : List ℕ) where
-  pub bind-goes-on : (b₁ : List ℕ) (x : Node) (r : Row) (f₁ : ℕ) → (left ≡ 0 → ⊥) → x ≡ nodeAt tree at → r ≡ rowAt w from →
-      b₁ ≡ putBinding b next (binding (x .place) (r .tag) (r .word) within) → f₁ ≡ rowAfter from →
-      bindAll tree (left - 1) (x .next) f₁ w (next + 1) (next + 1) b₁ ≡ bindAll tree left at from w next within b
+  pub bind-goes-on : (b₁ : List ℕ) (q : ℕ) (r : Row) (f₁ : ℕ) → (left ≡ 0 → ⊥) → q ≡ nodeAt tree at .next → r ≡ rowAt w from →
+      b₁ ≡ putBinding b next (bindingBehind b (r .tag) (r .word) within) → f₁ ≡ rowAfter from →
+      bindAll tree (left - 1) q f₁ w (next + 1) (next + 1) b₁ ≡ bindAll tree left at from w next within b
   unfolding bindAll
-  bind-goes-on b₁ x r f₁ some x-is r-is b-is f-is =
-      rw (b-is, x-is, r-is, f-is, add-one next) (ap (λ (j : ℕ). bindAll tree j at from w next within b) (sym (one-more left some)))
+  bind-goes-on b₁ q r f₁ some q-is r-is b-is f-is =
+      rw (b-is, q-is, r-is, f-is, add-one next) (ap (λ (j : ℕ). bindAll tree j at from w next within b) (sym (one-more left some)))
 
   pub bind-ends : left ≡ 0 → opened within b ≡ bindAll tree left at from w next within b
   unfolding bindAll
@@ -110,7 +110,7 @@ not-value (Value t x) h m k = ⊎-elim (λ q. absurd (omega arith)) (λ q. absur
 not-value (Stop n p) h m k = refl
 not-value NoRule h m k = refl
 
-module _ (g : Run) (p n sp q : ℕ) (m : Tables) (e : Ending) (e-is : e ≡ bodyAfter g.script.tree n q) where
+module _ (g : Run) (p n sp q : ℕ) (m : Tables) (e : Ending) (e-is : e ≡ bodyAfter g.tree n q) where
   module _ (env : ℕ) where
     pub enter-not : (tagOf the-type e ≡ 1) ⊎ (tagOf the-type e ≡ 2) → is e m ≡ enter g p n sp q env m
     unfolding enter andThen
@@ -122,7 +122,7 @@ module _ (g : Run) (p n sp q : ℕ) (m : Tables) (e : Ending) (e-is : e ≡ body
       enter-full h = rw (← e-is, found, ← r-is, h)
 
       pub enter-some : r ≡ true → (within : ℕ) (b : List ℕ) (k : Counts) →
-          opened within b ≡ bindAll g.script.tree n q sp (m .waiting) (m .counts .bindings) env (m .bindings) → k ≡ withBindings n (m .counts) →
+          opened within b ≡ bindAll g.tree n q sp (m .waiting) (m .counts .bindings) env (m .bindings) → k ≡ withBindings n (m .counts) →
           is (Value within body) (tables k b (m .cells) (m .output) (m .waiting)) ≡ enter g p n sp q env m
       unfolding enter andThen pick
       enter-some h within b k o-is k-is = rw (← e-is, found, ← r-is, h, ← o-is, k-is)
@@ -137,15 +137,14 @@ module _ (g : Run) (p n sp q : ℕ) (m : Tables) (e : Ending) (e-is : e ≡ body
       unfolding enterAgain andThen pick
       named-full h = rw (← e-is, found, ← r-is, h)
 
-      pub named-some : r ≡ true → (env within node place : ℕ) (b b₁ : List ℕ) (k : Counts) → env ≡ envOf word →
-          opened within b ≡ bindAll g.script.tree n q sp (m .waiting) (m .counts .bindings) env (m .bindings) →
-          node ≡ nodeOf word → place ≡ nodeAt g.script.tree node .place →
-          b₁ ≡ putBinding b (n + m .counts .bindings) (binding place tag word within) →
+      pub named-some : r ≡ true → (env within : ℕ) (b b₁ : List ℕ) (k : Counts) → env ≡ envOf word →
+          opened within b ≡ bindAll g.tree n q sp (m .waiting) (m .counts .bindings) env (m .bindings) →
+          b₁ ≡ putBinding b (n + m .counts .bindings) (bindingBehind b tag word within) →
           k ≡ withBindings (n + 1) (m .counts) →
           is (Value (n + m .counts .bindings + 1) body) (tables k b₁ (m .cells) (m .output) (m .waiting)) ≡ enterAgain g p n sp q tag word m
       unfolding enterAgain andThen pick
-      named-some h env within node place b b₁ k env-is o-is node-is place-is b-is k-is =
-          rw (← e-is, found, ← r-is, h, ← env-is, ← o-is, ← node-is, ← place-is, ← b-is, k-is, add-one n, add-one (n + m .counts .bindings))
+      named-some h env within b b₁ k env-is o-is b-is k-is =
+          rw (← e-is, found, ← r-is, h, ← env-is, ← o-is, ← b-is, k-is, add-one n, add-one (n + m .counts .bindings))
 
 module _ (g : Run) (p n sp tag word : ℕ) (m : Tables) where
   module _ (node : ℕ) (node-is : node ≡ nodeOf word) where
@@ -153,7 +152,7 @@ module _ (g : Run) (p n sp tag word : ℕ) (m : Tables) where
     unfolding openFunction pick
     function-plain h env env-is = rw (h, node-is, env-is)
 
-    pub function-named : tag ≡ 2 → (result first : ℕ) → result ≡ nodeAt g.script.tree node .next → first ≡ nodeAt g.script.tree result .next →
+    pub function-named : tag ≡ 2 → (result first : ℕ) → result ≡ nodeAt g.tree node .next → first ≡ nodeAt g.tree result .next →
         enterAgain g p n sp first tag word m ≡ openFunction g p n sp tag word m
     unfolding openFunction pick
     function-named h result first result-is first-is = rw (first-is, result-is, node-is, h)
@@ -162,7 +161,7 @@ module _ (g : Run) (p n sp tag word : ℕ) (m : Tables) where
     unfolding openProcedure pick
     procedure-plain h env env-is = rw (h, node-is, env-is)
 
-    pub procedure-named : tag ≡ 4 → (first : ℕ) → first ≡ nodeAt g.script.tree node .next →
+    pub procedure-named : tag ≡ 4 → (first : ℕ) → first ≡ nodeAt g.tree node .next →
         enterAgain g p n sp first tag word m ≡ openProcedure g p n sp tag word m
     unfolding openProcedure pick
     procedure-named h first first-is = rw (first-is, node-is, h)
@@ -186,30 +185,30 @@ module _ (g : Run) (form p n sp tag word : ℕ) (m : Tables) where
 
 -- ---- definitions
 
-module _ (g : Run) (p q : ℕ) (env : ℕ) (m : Tables) where
+module _ (g : Run) (p env : ℕ) (m : Tables) where
   module _ (tag word : ℕ) where
     pub define-some : m .counts .bindings < g.bounds .bindings → (b : List ℕ) (k : Counts) →
-        b ≡ putBinding (m .bindings) (m .counts .bindings) (binding q tag word env) → k ≡ withBindings 1 (m .counts) →
-        is (Value 7 (m .counts .bindings + 1)) (tables k b (m .cells) (m .output) (m .waiting)) ≡ define g p q tag word env m
+        b ≡ putBinding (m .bindings) (m .counts .bindings) (bindingBehind (m .bindings) tag word env) → k ≡ withBindings 1 (m .counts) →
+        is (Value 7 (m .counts .bindings + 1)) (tables k b (m .cells) (m .output) (m .waiting)) ≡ define g p tag word env m
     unfolding define pick
     define-some h b k b-is k-is = rw (lt-ltb _ _ h, b-is, k-is, add-one (m .counts .bindings))
 
-    pub define-full : g.bounds .bindings ≤ m .counts .bindings → is (Stop 23 p) m ≡ define g p q tag word env m
+    pub define-full : g.bounds .bindings ≤ m .counts .bindings → is (Stop 23 p) m ≡ define g p tag word env m
     unfolding define pick
     define-full h = rw (le-ltb _ _ h)
 
   pub cell-some : m .counts .cells < g.bounds .cells → (c : List ℕ) → c ≡ putRow (m .cells) (m .counts .cells) 6 0 →
-      define g p q 5 (m .counts .cells) env
+      define g p 5 (m .counts .cells) env
       (tables
       (record { units = m .counts .units; bindings = m .counts .bindings; cells = m .counts .cells + 1; numbers = m .counts .numbers })
       (m .bindings)
       c
       (m .output)
-      (m .waiting)) ≡ defineCell g p q env m
+      (m .waiting)) ≡ defineCell g p env m
   unfolding defineCell pick
   cell-some h c c-is = rw (lt-ltb _ _ h, c-is, add-one (m .counts .cells))
 
-  pub cell-full : g.bounds .cells ≤ m .counts .cells → is (Stop 22 p) m ≡ defineCell g p q env m
+  pub cell-full : g.bounds .cells ≤ m .counts .cells → is (Stop 22 p) m ≡ defineCell g p env m
   unfolding defineCell pick
   cell-full h = rw (le-ltb _ _ h)
 
@@ -218,30 +217,30 @@ module _ (g : Run) (env : ℕ) (n : Node) (m : Tables) where
   unfolding definition
   definition-kind k h = ap (λ (j : ℕ). definitionBy g j env n m) (sym h)
 
-  module _ (x : Node) (x-is : x ≡ nodeAt g.script.tree (n .child)) where
-    pub defines-function : n .kind ≡ 3 → (first word : ℕ) → first ≡ nodeAt g.script.tree (x .next) .next → word ≡ closureWord first env →
-        define g (n .place) (x .place) 1 word env m ≡ definition g env n m
+  pub defines-named-function : n .kind ≡ 4 → (word : ℕ) → word ≡ closureWord (n .child) env →
+      define g (n .place) 2 word env m ≡ definition g env n m
+  unfolding definitionBy pick
+  defines-named-function h word word-is = rw word-is (definition-kind 4 h)
+
+  pub defines-cell : n .kind ≡ 5 → defineCell g (n .place) env m ≡ definition g env n m
+  unfolding definitionBy pick
+  defines-cell h = definition-kind 5 h
+
+  pub defines-named-procedure : n .kind ≡ 7 → (word : ℕ) → word ≡ closureWord (n .child) env →
+      define g (n .place) 4 word env m ≡ definition g env n m
+  unfolding definitionBy pick
+  defines-named-procedure h word word-is = rw word-is (definition-kind 7 h)
+
+  module _ (x : Node) (x-is : x ≡ nodeAt g.tree (n .child)) where
+    pub defines-function : n .kind ≡ 3 → (first word : ℕ) → first ≡ nodeAt g.tree (x .next) .next → word ≡ closureWord first env →
+        define g (n .place) 1 word env m ≡ definition g env n m
     unfolding definitionBy pick
     defines-function h first word first-is word-is = rw (word-is, first-is, x-is) (definition-kind 3 h)
 
-    pub defines-named-function : n .kind ≡ 4 → (word : ℕ) → word ≡ closureWord (n .child) env →
-        define g (n .place) (x .place) 2 word env m ≡ definition g env n m
-    unfolding definitionBy pick
-    defines-named-function h word word-is = rw (word-is, x-is) (definition-kind 4 h)
-
-    pub defines-cell : n .kind ≡ 5 → defineCell g (n .place) (x .place) env m ≡ definition g env n m
-    unfolding definitionBy pick
-    defines-cell h = rw x-is (definition-kind 5 h)
-
     pub defines-procedure : n .kind ≡ 6 → (word : ℕ) → word ≡ closureWord (x .next) env →
-        define g (n .place) (x .place) 3 word env m ≡ definition g env n m
+        define g (n .place) 3 word env m ≡ definition g env n m
     unfolding definitionBy pick
     defines-procedure h word word-is = rw (word-is, x-is) (definition-kind 6 h)
-
-    pub defines-named-procedure : n .kind ≡ 7 → (word : ℕ) → word ≡ closureWord (n .child) env →
-        define g (n .place) (x .place) 4 word env m ≡ definition g env n m
-    unfolding definitionBy pick
-    defines-named-procedure h word word-is = rw (word-is, x-is) (definition-kind 7 h)
 
   pub defines-nothing : (n .kind ≡ 3 → ⊥) → (n .kind ≡ 4 → ⊥) → (n .kind ≡ 5 → ⊥) → (n .kind ≡ 6 → ⊥) → (n .kind ≡ 7 → ⊥) →
       is NoRule m ≡ definition g env n m

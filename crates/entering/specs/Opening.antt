@@ -25,12 +25,12 @@ withBindings n c = record { units = c .units; bindings = n + c .bindings; cells 
 module _ (g : Run) where
   unfoldable pub definitionBy : (k env : ℕ) → Node → Tables → Ret
   definitionBy k env n m =
-      let x = nodeAt g.script.tree (n .child) in
-      pick (eqb k 3) (λ _. define g (n .place) (x .place) function-tag (closureWord (nodeAt g.script.tree (x .next) .next) env) env m) λ _.
-      pick (eqb k 4) (λ _. define g (n .place) (x .place) recursive-function-tag (closureWord (n .child) env) env m) λ _.
-      pick (eqb k 5) (λ _. defineCell g (n .place) (x .place) env m) λ _.
-      pick (eqb k 6) (λ _. define g (n .place) (x .place) procedure-tag (closureWord (x .next) env) env m) λ _.
-      pick (eqb k 7) (λ _. define g (n .place) (x .place) recursive-procedure-tag (closureWord (n .child) env) env m) λ _.
+      let x = nodeAt g.tree (n .child) in
+      pick (eqb k 3) (λ _. define g (n .place) function-tag (closureWord (nodeAt g.tree (x .next) .next) env) env m) λ _.
+      pick (eqb k 4) (λ _. define g (n .place) recursive-function-tag (closureWord (n .child) env) env m) λ _.
+      pick (eqb k 5) (λ _. defineCell g (n .place) env m) λ _.
+      pick (eqb k 6) (λ _. define g (n .place) procedure-tag (closureWord (x .next) env) env m) λ _.
+      pick (eqb k 7) (λ _. define g (n .place) recursive-procedure-tag (closureWord (n .child) env) env m) λ _.
       is NoRule m
 
   unfoldable pub definition : (env : ℕ) → Node → Tables → Ret

@@ -1,9 +1,9 @@
 -- The relation's laws: what is kept, and one law for each way in which the rules are put together.
 use mathlib.Core.Path.{_≡_, refl, _∙_}
-use mathlib.Core.Bool.{Bool, true, false, cond}
+use mathlib.Core.Bool.{Bool, true, false}
 use mathlib.Core.List.{List}
 use mathlib.Core.Option.{Option, none, some}
-use Prim.Native.Nat.{ℕ, zero, suc, _+_, _-_, _≤_, _<_}
+use Prim.Native.Nat.{ℕ, zero, suc, _+_, _≤_, _<_}
 use native.Mathlib.Nat.{le-refl, le-trans, not-suc-le-zero}
 use native.Mathlib.Omega.{arith}
 use lib.Dec.{T, eqb, ltb, eqb·suc-zero, eqb·suc-suc}
@@ -13,25 +13,17 @@ use mir.Syntax.{w64}
 use mir.Val.{toZ, sel}
 use Rattle.language.specs.Answers.{LimitStop, Stop, limit, stop-number}
 use Rattle.language.specs.Numbers.{as-bit}
-use Rattle.language.specs.Rules.{Val, Env, State, no-rule, Outcome, ok, halt, bind, need, within, branch, lookup-env, as-number, as-truth, as-address}
+use Rattle.language.specs.Rules.{Val, Env, State, no-rule, Outcome, ok, halt, bind, need, within, branch, as-number, as-truth, as-address}
 use Rattle.machine.specs.declared.Row.{Row}
 use Rattle.machine.specs.declared.Ending.{Ending}
-use Rattle.machine.specs.declared.Ending.the-variants.{Value, NoRule}
+use Rattle.machine.specs.declared.Ending.the-variants.{NoRule}
 use Rattle.machine.specs.declared.Ending.the-variants as E
-use Rattle.machine.specs.Entries.{pick, number-tag, address-tag, bindingAt}
+use Rattle.machine.specs.Entries.{pick, number-tag, address-tag, binding}
 use Rattle.machine.specs.State.{Tables, Ret, is, andThen}
 use Rattle.machine.specs.Machine.{onBit}
-use Rattle.machine.specs.Leaves.{sameName, walk}
 use Rattle.machine.proofs.Lists.{Asks, asks-yes, asks-no}
-use Rattle.machine.proofs.Relation.{Stage, Kept, Thing, Old, Rep, v-num, v-fun, v-rec, v-proc, v-proc-rec, v-adr, e-none, e-bound, ValR, EnvR, Found, found, lost, CellR, c-unset, c-set, Waits, w-none, w-more, R, Grow, Sim, goes, stops, no-way, Spent, Made, Some, Waiting, name-in}
-
-less-one : (k : ℕ) → suc k - 1 ≡ k
-less-one k = omega arith
-
-walk-suc : (text b : List ℕ) (q n k : ℕ) → walk text b q (suc n) (suc k) ≡
-    pick (sameName text (bindingAt b k .place) q) (λ _. Value (bindingAt b k .tag) (bindingAt b k .word)) λ _. walk text b q n (bindingAt b k .link)
-unfolding walk pick
-walk-suc text b q n k = rw (eqb·suc-zero k, less-one k)
+use Rattle.machine.proofs.Relation.{Stage, Kept, Thing, Old, Rep, v-num, v-fun, v-rec, v-proc, v-proc-rec, v-adr, e-none, e-bound, ValR, EnvR, CellR, c-unset, c-set, Waits, w-none, w-more, R, Grow, Sim, goes, stops, no-way, Spent, Made, Some, Waiting}
+use Rattle.machine.proofs.Steps.{more}
 
 pub bind-ok : {A B : Type 0} (a : A) (s : State) (k : A → State → Outcome B) → bind (ok a s) k ≡ k a s
 unfolding bind
@@ -56,9 +48,9 @@ module _ {g : Stage} where
   keep (v-proc-rec p e n) h o = v-proc-rec p e (keep n h o)
   keep v-adr h o = v-adr
   keep e-none h o = e-none
-  keep (e-bound {k = k} l e u n) h o =
+  keep (e-bound {k = k} l e u n q w j) h o =
       e-bound (le-trans l h) (o k l ∙ e) (keep u (le-refl _) (λ j s. o j (le-trans s (omega arith))))
-      (keep n (le-refl _) (λ j s. o j (le-trans s (omega arith))))
+      (keep n (le-refl _) (λ j s. o j (le-trans s (omega arith)))) q w (keep j (le-refl _) (λ j s. o j (le-trans s (omega arith))))
 
   pub cell-keep : {b b′ : List ℕ} {c c′ : ℕ} {o : Option Val} {r : Row} → CellR g b c o r → c ≤ c′ → Old b c b′ → CellR g b′ c′ o r
   cell-keep c-unset h o = c-unset
@@ -71,7 +63,7 @@ module _ {g : Stage} where
   -- an environment's number is at most the number of bindings
   pub env-in : {b : List ℕ} {c n : ℕ} {ρ : Env} → EnvR g b c ρ n → n ≤ c
   env-in e-none = omega arith
-  env-in (e-bound l e u n) = l
+  env-in (e-bound l e u n q w j) = l
 
   pub tag-small : {b : List ℕ} {c t x : ℕ} {u : Val} → ValR g b c u t x → t < 65536
   tag-small (v-num x) = omega arith
@@ -80,28 +72,6 @@ module _ {g : Stage} where
   tag-small (v-proc p e n) = omega arith
   tag-small (v-proc-rec p e n) = omega arith
   tag-small v-adr = omega arith
-
-  -- ---- the chain of bindings is the rules' environment
-
-  found-up : {b : List ℕ} {k c : ℕ} {o : Option Val} {a : Ending} → k ≤ c → Found g b k o a → Found g b c o a
-  found-up h (found u) = found (keep u h (λ j s. refl))
-  found-up h lost = lost
-
-  found-pick : {b : List ℕ} {c : ℕ} (s : Bool) {u : Val} {t x : ℕ} {o : Option Val} {a : Ending} → ValR g b c u t x → Found g b c o a →
-      Found g b c (cond s (some u) o) (pick s (λ _. Value t x) λ _. a)
-  unfolding pick
-  found-pick true u h = found u
-  found-pick false u h = h
-
-  pub walk-finds : {b : List ℕ} {c : ℕ} {ρ : Env} {e : ℕ} → EnvR g b c ρ e → (q n : ℕ) → c ≤ n →
-      Found g b c (lookup-env ρ (name-in g q)) (walk (g.script .text) b q n e)
-  unfolding walk pick sameName
-  walk-finds e-none q zero h = lost
-  walk-finds e-none q (suc n) h = lost
-  walk-finds (e-bound l e u m) q zero h = absurd (not-suc-le-zero (le-trans l h))
-  walk-finds {b} (e-bound {k = k} {p = z} l e u m) q (suc n) h =
-      rw (walk-suc (g.script .text) b q n k, e)
-      (found-pick (sameName (g.script .text) z q) (keep u (omega arith) (λ j s. refl)) (found-up (omega arith) (walk-finds m q n (omega arith))))
 
   -- ---- states that go on
 

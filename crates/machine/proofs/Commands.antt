@@ -1,24 +1,25 @@
 -- Definitions and statements: one law for each form.
 use mathlib.Core.Path.{_≡_, refl, sym, subst}
-use mathlib.Core.List.{List}
+use mathlib.Core.List.{List, _∷_}
 use Prim.Native.Nat.{ℕ, zero, suc, _≤_, _<_}
 use native.Mathlib.Nat.{le-refl, not-suc-le-zero}
 use native.Mathlib.Omega.{arith}
 use lib.Dec.{leb→le, ltb→lt}
 use lib.ListN.{length}
-use Rattle.language.specs.Syntax.{Expr, TypeTree, ExprP, Def, const, var, Stat, echo, if-stat, call, Block}
+use Rattle.language.specs.Syntax.{Name, at, Expr, TypeTree, ExprP, Def, const, var, Stat, echo, if-stat, call, Block}
 use Rattle.language.specs.Syntax as Syntax
 use Rattle.language.specs.Places.{place-def, place-stat}
 use Rattle.language.specs.Rules.{Val, Env, bound, State, Outcome, ok, make, Level, in-block, open-procedure, def-rule, stat-rule}
 use Rattle.language.specs.Rules as Rules
-use Rattle.nodes.specs.Trees.{kind, place, child, next, ident, AtE, AtAs, AtD, at-const, at-fun, at-fun-rec, at-var, at-proc, at-proc-rec, AtS, at-echo, at-set, at-if-stat, at-while, at-call, AtB, at-block}
+use Rattle.nodes.specs.Trees.{kind, place, child, next, AtD, at-const, at-fun, at-fun-rec, at-var, at-proc, at-proc-rec, AtS, at-echo, at-set, at-if-stat, at-while, at-call, AtB, at-block}
 use Rattle.machine.specs.Entries.{pick}
+use Rattle.machine.specs.Codes.{defined, Used, CodedD, CodedS, CodedB}
 use Rattle.machine.specs.State.{Tables}
 use Rattle.machine.specs.Leaves.{define, defineCell}
 use Rattle.machine.specs.Machine.{Evaluators, constC, echoC, setC, blockC, ifC, callC, rounds, cmdBy, cmdIn}
-use Rattle.machine.proofs.Entries.{place-small, child-small, next-small}
+use Rattle.machine.proofs.Entries.{child-small, next-small}
 use Rattle.machine.proofs.Lists.{asks-stored, room-one}
-use Rattle.machine.proofs.Relation.{Stage, run-of, slot, v-adr, R, Sim, goes, Spent, IsEnv, IsDone, Here, Adeq, Named, IsVal, node, name-in}
+use Rattle.machine.proofs.Relation.{Stage, run-of, slot, v-adr, R, Sim, goes, Spent, IsEnv, IsDone, Here, Adeq, Named, IsVal, node, scope, InE, InAs, InB}
 use Rattle.machine.proofs.Agree.{keep, grow-self, sim-lift, relax, making, sim-within, sim-bind, sim-call, sim-end, sim-need, asks-num, sim-bit}
 use Rattle.machine.proofs.States.{old-more, r-bind, r-put-out, r-cell, r-store, sim-guard}
 use Rattle.machine.proofs.Closures.{function-value, procedure-value, recursive-function-value, recursive-procedure-value}
@@ -30,40 +31,38 @@ use Rattle.machine.proofs.Expressions.{onward, inside, all-args}
 module _ {g : Stage} where
   -- ---- definitions
 
-  -- one binding, of the name at q
-  define-sim : (p q : ℕ) {ρ : Env} {u : Val} {t x env sp : ℕ} {s : State} {m : Tables} → q < 65536 → IsVal g u t x m →
-      Named g ρ env m → R g s m →
-      Sim g (IsEnv g) sp m (make g.limits 1 p s λ s₁. ok (bound (name-in g q) u ρ) s₁) (define (run-of g) p q t x env m)
+  -- one binding, of the name y
+  define-sim : (p : ℕ) (y : Name) {ρ : Env} {u : Val} {t x env sp : ℕ} {s : State} {m : Tables} → IsVal g u t x m → Named g ρ env m → R g s m →
+      Sim g (IsEnv g (y ∷ scope ρ)) sp m (make g.limits 1 p s λ s₁. ok (bound y u ρ) s₁) (define (run-of g) p t x env m)
   unfolding define
-  define-sim p q {m = m} h v n r =
+  define-sim p y {m = m} v n r =
       sim-within _ _ _ _ (room-one _ _ (g.limits .bindings) (r .bindings)) r λ e.
       let c : suc (m .counts .bindings) ≤ g.limits .bindings = leb→le _ _ (room-one _ _ (g.limits .bindings) (r .bindings) .0 e) in
-      goes (env-more q _ v n (omega (arith, r .roomy .bindings-fit, r .bindings-kept .long)) (omega (arith, r .roomy .few-bindings)) h (omega arith))
+      goes (record { named = env-more _ v n (omega (arith, r .roomy .bindings-fit, r .bindings-kept .long)) (omega (arith, r .roomy .few-bindings)) (omega arith); scope-is = refl })
       (r-bind r 1 _ (old-more _ _ _) (kept-binding _ _ _ (omega arith)) (omega arith))
       (record { more = omega arith; old = old-more _ _ _; waits = λ k s h. refl; fell = le-refl _ })
 
-  var-sim : (l : Level) (i : ℕ) (y : TypeTree) {ρ : Env} {env sp : ℕ} {s : State} {m : Tables} → Named g ρ env m → R g s m →
-      Sim g (IsEnv g) sp m (def-rule g.limits l (var (place g.script i) (ident g.script (child g.script i)) y) ρ s)
-      (defineCell (run-of g) (place g.script i) (place g.script (child g.script i)) env m)
+  var-sim : (l : Level) (i : ℕ) (z : Name) (y : TypeTree) {ρ : Env} {env sp : ℕ} {s : State} {m : Tables} → Named g ρ env m → R g s m →
+      Sim g (IsEnv g (z ∷ scope ρ)) sp m (def-rule g.limits l (var (place g.script i) (at (place g.script (child g.script i)) z) y) ρ s)
+      (defineCell (run-of g) (place g.script i) env m)
   unfolding defineCell
-  var-sim l i y n r =
+  var-sim l i z y n r =
       rw (r .cells) (sim-within _ _ _ _ (λ h. h, λ h. h) r λ e.
       sim-lift (record { more = le-refl _; old = λ k h. refl; waits = λ k s h. refl; fell = le-refl _ })
-      (define-sim _ _ (place-small (g.script .tree) (child g.script i)) v-adr n (r-cell r (ltb→lt _ _ e))))
+      (define-sim _ z v-adr n (r-cell r (ltb→lt _ _ e))))
 
   module _ {l : Level} {S : Evaluators} (h : Adeq g l S) where
-    const-sim : (i : ℕ) (y : TypeTree) {e : Expr} {ρ : Env} {env sp : ℕ} {s : State} {m : Tables} →
-        AtE g.script (next g.script (next g.script (child g.script i))) e → Here g ρ env s m →
-        Sim g (IsEnv g) sp m (def-rule g.limits l (const (place g.script i) (ident g.script (child g.script i)) y e) ρ s)
+    const-sim : (i : ℕ) (z : Name) (y : TypeTree) {e : Expr} {ρ : Env} {env sp : ℕ} {s : State} {m : Tables} →
+        InE g (scope ρ) (next g.script (next g.script (child g.script i))) e → Here g ρ env s m →
+        Sim g (IsEnv g (z ∷ scope ρ)) sp m (def-rule g.limits l (const (place g.script i) (at (place g.script (child g.script i)) z) y e) ρ s)
         (constC (run-of g) S env (slot sp) (node g i) m)
     unfolding constC
-    const-sim i y a x =
-        sim-bind (h .onE a x) λ u s₁ t z m₁ v r₁ gr. define-sim _ _ (place-small (g.script .tree) (child g.script i)) (v .it)
-        (onward x r₁ gr .names′) r₁
+    const-sim i z y a x =
+        sim-bind (h .onE a x) λ u s₁ t j m₁ v r₁ gr. define-sim _ z (v .it) (onward x r₁ gr .names′) r₁
 
     -- ---- statements
 
-    echo-sim : (i : ℕ) {e : Expr} {ρ : Env} {env sp : ℕ} {s : State} {m : Tables} → AtE g.script (child g.script i) e → Here g ρ env s m →
+    echo-sim : (i : ℕ) {e : Expr} {ρ : Env} {env sp : ℕ} {s : State} {m : Tables} → InE g (scope ρ) (child g.script i) e → Here g ρ env s m →
         Sim g (IsDone env) sp m (stat-rule g.limits l (echo (place g.script i) e) ρ s) (echoC (run-of g) S env (slot sp) (node g i) m)
     unfolding echoC
     echo-sim i a x =
@@ -71,49 +70,53 @@ module _ {g : Stage} where
         rw (e, r₁ .numbers) (sim-within _ _ _ _ (λ h. h, λ h. h) r₁ λ c.
         goes refl (r-put-out r₁ _ (ltb→lt _ _ c)) (record { more = le-refl _; old = λ k h. refl; waits = λ k s h. refl; fell = le-refl _ }))
 
-    set-sim : (i : ℕ) {e : Expr} {ρ : Env} {env sp : ℕ} {s : State} {m : Tables} → AtE g.script (next g.script (child g.script i)) e →
-        Here g ρ env s m →
-        Sim g (IsDone env) sp m (stat-rule g.limits l (Syntax.set (place g.script i) (ident g.script (child g.script i)) e) ρ s)
+    set-sim : (i : ℕ) {z : Name} {e : Expr} {ρ : Env} {env sp : ℕ} {s : State} {m : Tables} → Used g.script g.codes (scope ρ) (child g.script i) z →
+        InE g (scope ρ) (next g.script (child g.script i)) e → Here g ρ env s m →
+        Sim g (IsDone env) sp m (stat-rule g.limits l (Syntax.set (place g.script i) (at (place g.script (child g.script i)) z) e) ρ s)
         (setC (run-of g) S env (slot sp) (node g i) m)
     unfolding setC
-    set-sim i a x =
-        sim-address _ _ _ (x .names′) (x .st) λ c.
-        sim-bind (h .onE a x) λ u s₁ t y m₁ v r₁ gr. sim-need _ (asks-stored (s₁ .cells) c _ u (r₁ .cells)) r₁ λ cs q.
-        goes refl (r-store r₁ c t y u cs q (v .it)) (record { more = le-refl _; old = λ k h. refl; waits = λ k s h. refl; fell = le-refl _ })
+    set-sim i n a x =
+        sim-address _ _ n (x .names′) (x .st) λ c.
+        sim-bind (h .onE a x) λ u s₁ t y m₁ v r₁ gr. sim-need _ (asks-stored (s₁ .cells) c _ u (r₁ .cells)) r₁ λ cs w.
+        goes refl (r-store r₁ c t y u cs w (v .it)) (record { more = le-refl _; old = λ k h. refl; waits = λ k s h. refl; fell = le-refl _ })
 
-    on-block : {i : ℕ} {b : Block} {ρ : Env} {env sp : ℕ} {s : State} {m : Tables} → AtB g.script i b → Here g ρ env s m →
+    within-block : {i : ℕ} {b : Block} {ρ : Env} {env sp : ℕ} {s : State} {m : Tables} → AtB g.script i b → CodedB g.script g.codes (scope ρ) i b → Here g ρ env s m →
         Sim g (λ u t x m₁. Unit {0}) sp m (in-block l b ρ s) (S .block env (slot sp) (child g.script i) m)
-    on-block (at-block k a) x = h .onC a x
+    within-block (at-block k a) q x = h .onC (record { at = a; coded = q }) x
 
-    block-sim : {i : ℕ} {b : Block} {ρ : Env} (env : ℕ) {within sp : ℕ} {s : State} {m : Tables} → AtB g.script i b → Here g ρ within s m →
+    on-block : {i : ℕ} {b : Block} {ρ : Env} {env sp : ℕ} {s : State} {m : Tables} → InB g (scope ρ) i b → Here g ρ env s m →
+        Sim g (λ u t x m₁. Unit {0}) sp m (in-block l b ρ s) (S .block env (slot sp) (child g.script i) m)
+    on-block a x = within-block (a .at) (a .coded) x
+
+    block-sim : {i : ℕ} {b : Block} {ρ : Env} (env : ℕ) {within sp : ℕ} {s : State} {m : Tables} → InB g (scope ρ) i b → Here g ρ within s m →
         Sim g (IsDone env) sp m (in-block l b ρ s) (blockC (run-of g) S env within (slot sp) i m)
     unfolding blockC
     block-sim env a x = sim-end (on-block a x) λ _ s₁ t y m₁ _ r₁ gr. goes refl r₁ grow-self
 
-    if-stat-sim : (i : ℕ) {e : Expr} {a b : Block} {ρ : Env} {env sp : ℕ} {s : State} {m : Tables} → AtE g.script (child g.script i) e →
-        AtB g.script (next g.script (child g.script i)) a → AtB g.script (next g.script (next g.script (child g.script i))) b → Here g ρ env s m →
+    if-stat-sim : (i : ℕ) {e : Expr} {a b : Block} {ρ : Env} {env sp : ℕ} {s : State} {m : Tables} → InE g (scope ρ) (child g.script i) e →
+        InB g (scope ρ) (next g.script (child g.script i)) a → InB g (scope ρ) (next g.script (next g.script (child g.script i))) b → Here g ρ env s m →
         Sim g (IsDone env) sp m (stat-rule g.limits l (if-stat (place g.script i) e a b) ρ s) (ifC (run-of g) S env (slot sp) (node g i) m)
     unfolding ifC
     if-stat-sim i {env = env} e a b x =
         sim-bind (h .onE e x) λ u s₁ t y m₁ v r₁ gr. sim-bit _ (v .it) r₁ (block-sim env a (onward x r₁ gr)) (block-sim env b (onward x r₁ gr))
 
-    call-stat-sim : (i : ℕ) {es : List ExprP} {ρ : Env} {env sp : ℕ} {s : State} {m : Tables} → AtAs g.script (next g.script (child g.script i)) es →
-        Here g ρ env s m →
-        Sim g (IsDone env) sp m (stat-rule g.limits l (call (place g.script i) (ident g.script (child g.script i)) es) ρ s)
+    call-stat-sim : (i : ℕ) {z : Name} {es : List ExprP} {ρ : Env} {env sp : ℕ} {s : State} {m : Tables} → Used g.script g.codes (scope ρ) (child g.script i) z →
+        InAs g (scope ρ) (next g.script (child g.script i)) es → Here g ρ env s m →
+        Sim g (IsDone env) sp m (stat-rule g.limits l (call (place g.script i) (at (place g.script (child g.script i)) z) es) ρ s)
         (callC (run-of g) S env (slot sp) (node g i) m)
     unfolding callC
-    call-stat-sim i {env = env} {sp = sp} a x =
-        sim-look _ _ _ (x .names′) (x .st) λ u t y v.
-        sim-call (all-args h sp a x) λ us s₁ k n m₁ q r₁ gr.
-        sim-open (open-procedure u us) _ s₁ (λ c s₂. in-block l (c .body) (c .env) s₂) (procedure-sim _ k n (keep v (gr .more) (gr .old)) q r₁)
+    call-stat-sim i {env = env} {sp = sp} z a x =
+        sim-look _ _ z (x .names′) (x .st) λ u t y v.
+        sim-call (all-args h sp a x) λ us s₁ k n m₁ w r₁ gr.
+        sim-open (open-procedure u us) _ s₁ (λ c s₂. in-block l (c .body) (c .env) s₂) (procedure-sim _ k n (keep v (gr .more) (gr .old)) w r₁)
         λ c s₂ env₁ j m₂ b r₂ gr₂.
-        making (length us) (b .made) (block-sim env (b .it .body-at) (record { names′ = b .it .in-env; st = r₂ }))
+        making (length us) (b .made) (block-sim env (b .it .body-in) (record { names′ = b .it .in-env; st = r₂ }))
 
   -- with d levels left below
   module _ (d : ℕ) {l : Level} {S : Evaluators} (h : Adeq g l S) where
     -- each round takes a unit, so neither count runs out
-    rounds-sim : (i n k : ℕ) {e : Expr} {b : Block} {ρ : Env} {env sp : ℕ} {s : State} {m : Tables} → AtE g.script (child g.script i) e →
-        AtB g.script (next g.script (child g.script i)) b → Here g ρ env s m → m .counts .units < n → m .counts .units < k →
+    rounds-sim : (i n k : ℕ) {e : Expr} {b : Block} {ρ : Env} {env sp : ℕ} {s : State} {m : Tables} → InE g (scope ρ) (child g.script i) e →
+        InB g (scope ρ) (next g.script (child g.script i)) b → Here g ρ env s m → m .counts .units < n → m .counts .units < k →
         Sim g (Spent g m (IsDone env)) sp m
         (Rules.enter g.limits (place g.script i) s λ s₁. Rules.rounds g.limits n (l .expr e ρ) (in-block l b ρ) (place g.script i) s₁)
         (rounds (run-of g) k (suc d) S env (slot sp) (node g i) m)
@@ -135,33 +138,37 @@ module _ {g : Stage} where
         Sim g P sp m o (cmdIn (run-of g) (kind g.script i) (suc d) S env (slot sp) (node g i) m)
     cmd-kind {P = P} k i env {o} {sp} {m} e f = subst (λ (j : ℕ). Sim g P sp m o (cmdIn (run-of g) j (suc d) S env (slot sp) (node g i) m)) (sym e) f
 
-    pub def-sim : {i : ℕ} {c : Def} {ρ : Env} {env sp : ℕ} {s : State} {m : Tables} → AtD g.script i c → Here g ρ env s m →
-        Sim g (Spent g m (IsEnv g)) sp m (Rules.enter g.limits (place-def c) s λ s₁. def-rule g.limits l c ρ s₁)
+    pub def-sim : {i : ℕ} {c : Def} {ρ : Env} {env sp : ℕ} {s : State} {m : Tables} → AtD g.script i c → CodedD g.script g.codes (scope ρ) i c → Here g ρ env s m →
+        Sim g (Spent g m (IsEnv g (defined c ∷ scope ρ))) sp m (Rules.enter g.limits (place-def c) s λ s₁. def-rule g.limits l c ρ s₁)
         (cmdIn (run-of g) (kind g.script i) (suc d) S env (slot sp) (node g i) m)
     unfolding cmdIn cmdBy pick
-    def-sim {m = m} (at-const {t = y} k n a e z) x = cmd-kind 2 _ _ (k .kind-is) (sim-guard d _ _ (x .st) λ r. const-sim h _ y e (inside x r))
-    def-sim {m = m} (at-fun {i = i} k n a ps e z) x =
-        cmd-kind 3 _ _ (k .kind-is) (sim-guard d _ _ (x .st) λ r. define-sim _ _ (place-small (g.script .tree) (child g.script i))
-        (function-value (x .names′) r _ (next-small (g.script .tree) (next g.script (child g.script i))) ps e) (x .names′) r)
-    def-sim {m = m} (at-fun-rec {i = i} k n a ps e z) x =
-        cmd-kind 4 _ _ (k .kind-is) (sim-guard d _ _ (x .st) λ r. define-sim _ _ (place-small (g.script .tree) (child g.script i))
-        (recursive-function-value (x .names′) r _ (child-small (g.script .tree) i) ps e) (x .names′) r)
-    def-sim {m = m} (at-var {t = y} k n a z) x = cmd-kind 5 _ _ (k .kind-is) (sim-guard d _ _ (x .st) λ r. var-sim l _ y (x .names′) r)
-    def-sim {m = m} (at-proc {i = i} k n ps y b z) x =
-        cmd-kind 6 _ _ (k .kind-is) (sim-guard d _ _ (x .st) λ r. define-sim _ _ (place-small (g.script .tree) (child g.script i))
-        (procedure-value (x .names′) r _ (next-small (g.script .tree) (child g.script i)) ps b) (x .names′) r)
-    def-sim {m = m} (at-proc-rec {i = i} k n ps y b z) x =
-        cmd-kind 7 _ _ (k .kind-is) (sim-guard d _ _ (x .st) λ r. define-sim _ _ (place-small (g.script .tree) (child g.script i))
-        (recursive-procedure-value (x .names′) r _ (child-small (g.script .tree) i) ps b) (x .names′) r)
+    def-sim (at-const {t = y} k n a e z) q x =
+        cmd-kind 2 _ _ (k .kind-is) (sim-guard d _ _ (x .st) λ r. const-sim h _ _ y (record { at = e; coded = q }) (inside x r))
+    def-sim (at-fun {i = i} {j = j} k n a ps e z) q x =
+        cmd-kind 3 _ _ (k .kind-is) (sim-guard d _ _ (x .st) λ r. define-sim _ _
+        (function-value (x .names′) r _ (next-small (g.script .tree) (next g.script (child g.script i))) ps (record { at = e; coded = q j ps })) (x .names′) r)
+    def-sim (at-fun-rec {i = i} {j = j} k n a ps e z) q x =
+        cmd-kind 4 _ _ (k .kind-is) (sim-guard d _ _ (x .st) λ r. define-sim _ _
+        (recursive-function-value (x .names′) r _ (child-small (g.script .tree) i) ps (record { at = e; coded = q j ps })) (x .names′) r)
+    def-sim (at-var {t = y} k n a z) q x = cmd-kind 5 _ _ (k .kind-is) (sim-guard d _ _ (x .st) λ r. var-sim l _ _ y (x .names′) r)
+    def-sim (at-proc {i = i} {j = j} k n ps y b z) q x =
+        cmd-kind 6 _ _ (k .kind-is) (sim-guard d _ _ (x .st) λ r. define-sim _ _
+        (procedure-value (x .names′) r _ (next-small (g.script .tree) (child g.script i)) ps (record { at = b; coded = q j ps })) (x .names′) r)
+    def-sim (at-proc-rec {i = i} {j = j} k n ps y b z) q x =
+        cmd-kind 7 _ _ (k .kind-is) (sim-guard d _ _ (x .st) λ r. define-sim _ _
+        (recursive-procedure-value (x .names′) r _ (child-small (g.script .tree) i) ps (record { at = b; coded = q j ps })) (x .names′) r)
 
-    pub stat-sim : {i : ℕ} {c : Stat} {ρ : Env} {env sp : ℕ} {s : State} {m : Tables} → AtS g.script i c → Here g ρ env s m →
+    pub stat-sim : {i : ℕ} {c : Stat} {ρ : Env} {env sp : ℕ} {s : State} {m : Tables} → AtS g.script i c → CodedS g.script g.codes (scope ρ) i c → Here g ρ env s m →
         Sim g (Spent g m (IsDone env)) sp m (Rules.enter g.limits (place-stat c) s λ s₁. stat-rule g.limits l c ρ s₁)
         (cmdIn (run-of g) (kind g.script i) (suc d) S env (slot sp) (node g i) m)
     unfolding cmdIn cmdBy pick
-    stat-sim {m = m} (at-echo k e z) x = cmd-kind 8 _ _ (k .kind-is) (sim-guard d _ _ (x .st) λ r. echo-sim h _ e (inside x r))
-    stat-sim {m = m} (at-set k n e z) x = cmd-kind 9 _ _ (k .kind-is) (sim-guard d _ _ (x .st) λ r. set-sim h _ e (inside x r))
-    stat-sim {m = m} (at-if-stat k e y a y′ b z) x =
-        cmd-kind 10 _ _ (k .kind-is) (sim-guard d _ _ (x .st) λ r. if-stat-sim h _ e a b (inside x r))
-    stat-sim {m = m} (at-while k e y b z) x =
-        cmd-kind 11 _ _ (k .kind-is) (rounds-sim _ (suc (g.limits .fuel)) (suc (m .counts .units)) e b x (omega (arith, x .st .units)) (le-refl _))
-    stat-sim {m = m} (at-call k n as′) x = cmd-kind 12 _ _ (k .kind-is) (sim-guard d _ _ (x .st) λ r. call-stat-sim h _ as′ (inside x r))
+    stat-sim (at-echo k e z) q x = cmd-kind 8 _ _ (k .kind-is) (sim-guard d _ _ (x .st) λ r. echo-sim h _ (record { at = e; coded = q }) (inside x r))
+    stat-sim (at-set k n e z) q x = cmd-kind 9 _ _ (k .kind-is) (sim-guard d _ _ (x .st) λ r. set-sim h _ (q .0) (record { at = e; coded = q .1 }) (inside x r))
+    stat-sim (at-if-stat k e y a y′ b z) q x =
+        cmd-kind 10 _ _ (k .kind-is) (sim-guard d _ _ (x .st) λ r.
+        if-stat-sim h _ (record { at = e; coded = q .0 }) (record { at = a; coded = q .1 }) (record { at = b; coded = q .2 }) (inside x r))
+    stat-sim {m = m} (at-while k e y b z) q x =
+        cmd-kind 11 _ _ (k .kind-is) (rounds-sim _ (suc (g.limits .fuel)) (suc (m .counts .units)) (record { at = e; coded = q .0 }) (record { at = b; coded = q .1 }) x
+        (omega (arith, x .st .units)) (le-refl _))
+    stat-sim (at-call k n as′) q x =
+        cmd-kind 12 _ _ (k .kind-is) (sim-guard d _ _ (x .st) λ r. call-stat-sim h _ (q .0) (record { at = as′; coded = q .1 }) (inside x r))

@@ -16,8 +16,8 @@ use Rattle.machine.proofs.Members.{pick-true}
 row-eq : {t t′ x x′ : ℕ} → t ≡ t′ → x ≡ x′ → row t x ≡ row t′ x′
 row-eq p q = rw (p, q)
 
-binding-eq : {p p′ t t′ x x′ l l′ : ℕ} → p ≡ p′ → t ≡ t′ → x ≡ x′ → l ≡ l′ → binding p t x l ≡ binding p′ t′ x′ l′
-binding-eq a b c d = rw (a, b, c, d)
+binding-eq : {c c′ t t′ x x′ l l′ j j′ : ℕ} → c ≡ c′ → t ≡ t′ → x ≡ x′ → l ≡ l′ → j ≡ j′ → binding c t x l j ≡ binding c′ t′ x′ l′ j′
+binding-eq a b c d e = rw (a, b, c, d, e)
 
 module _ (l : List ℕ) (k t x : ℕ) where
   -- the row is written
@@ -73,8 +73,8 @@ module _ (l : List ℕ) (k t x : ℕ) where
       ap (λ (w : List ℕ). row (getD w (2 * k) 0) (getD w (2 * k + 1) 0)) (pick-true (ltb k most-rows) (λ _. written) _ (lt→ltb k most-rows m)) ∙ own h
 
 -- a binding's parts that fit 16 bits come back
-binding-back : (p t x l : ℕ) → p < 65536 → t < 65536 → l < 65536 → bindingOf (row (headOf p t l) x) ≡ binding p t x l
-binding-back p t x l hp ht hl = binding-eq (omega arith) (omega arith) refl (omega arith)
+binding-back : (c t x l j : ℕ) → c < 65536 → t < 65536 → l < 65536 → j < 65536 → bindingOf (row (headOf c t l j) x) ≡ binding c t x l j
+binding-back c t x l j hc ht hl hj = binding-eq (omega arith) (omega arith) refl (omega arith) (omega arith)
 
 module _ (l : List ℕ) (k : ℕ) (b : Binding) where
   pub binding-length : length (putBinding l k b) ≡ length l
@@ -89,9 +89,9 @@ module _ (l : List ℕ) (k : ℕ) (b : Binding) where
   unfolding bindingAt putBinding
   binding-other j h = ap bindingOf (row-other l k _ _ j h)
 
-  pub binding-own : k < most-rows → 2 * suc k ≤ length l → b .place < 65536 → b .tag < 65536 → b .link < 65536 → bindingAt (putBinding l k b) k ≡ b
+  pub binding-own : k < most-rows → 2 * suc k ≤ length l → b .code < 65536 → b .tag < 65536 → b .link < 65536 → b .jump < 65536 → bindingAt (putBinding l k b) k ≡ b
   unfolding bindingAt putBinding
-  binding-own m h hp ht hl = ap bindingOf (row-own l k _ _ m h) ∙ binding-back (b .place) (b .tag) (b .word) (b .link) hp ht hl
+  binding-own m h hc ht hl hj = ap bindingOf (row-own l k _ _ m h) ∙ binding-back (b .code) (b .tag) (b .word) (b .link) (b .jump) hc ht hl hj
 
 -- a closure's parts that fit 16 bits come back
 pub closure-node : (i env : ℕ) → i < 65536 → nodeOf (closureWord i env) ≡ i
@@ -103,10 +103,6 @@ unfolding envOf closureWord
 closure-env i env h = omega arith
 
 -- the parts of a node fit 16 bits
-pub place-small : (tree : List ℕ) (i : ℕ) → nodeAt tree i .place < 65536
-unfolding nodeAt
-place-small tree i = omega arith
-
 pub child-small : (tree : List ℕ) (i : ℕ) → nodeAt tree i .child < 65536
 unfolding nodeAt
 child-small tree i = omega arith

@@ -21,17 +21,21 @@ use Rattle.nodes.specs.Nodes.{nodeAt}
 use Rattle.nodes.specs.Written.{numberAt}
 use Rattle.machine.specs.Entries.{pick, rowAfter, rowAt, putRow, bindingAt, putBinding, closureWord, nodeOf, envOf}
 use Rattle.machine.specs.State.{andThen, guard}
-use Rattle.machine.specs.Leaves.{meaningAt, sameName, walk, boundTo, addressOf, readThrough, nameBy, nameValue, numeralAt, computedBy, negated, combined, isParam, bodyAfter, bindAll, enter, enterAgain, openFunction, openProcedure, define, defineCell}
-use Rattle.machine.specs.Machine.{onBit, args, allArgs, ifE, andE, orE, operatorE, callE, operatorAt, applyE, exprBy, constC, echoC, setC, blockC, ifC, callC, round, rounds, cmdBy, cmdIn, cmds, step, bottom, evaluators, blockAt}
+use Rattle.machine.specs.Codes.{codeOver, levelIn, operatorAt, codeFor, after, ownOf, entry, rowCodes, codesOf}
+use Rattle.machine.specs.Leaves.{codeIn, jumpIn, jumpFrom, bindingBehind, walk, boundTo, addressOf, readThrough, nameValue, computedBy, negated, combined, isParam, bodyAfter, bindAll, enter, enterAgain, openFunction, openProcedure, define, defineCell}
+use Rattle.machine.specs.Machine.{onBit, args, allArgs, ifE, andE, orE, operatorE, callE, applyE, exprBy, constC, echoC, setC, blockC, ifC, callC, round, rounds, cmdBy, cmdIn, cmds, step, bottom, evaluators, blockAt}
 use Rattle.machine.specs.Shown.{fresh, program, shown}
 
 abbrev tree-of : Result Block → List ℕ
 tree-of (fine b) = table b
 tree-of (refuse r p) = []
 
+abbrev codes-of : (tree text : List ℕ) → List ℕ
+codes-of tree text = codesOf (record { tree = tree; text = text })
+
 abbrev run-text : String → Limits → Report
 run-text s L =
-    shown (L .fuel) (program (tree-of (read (bytesOf s))) (bytesOf s) L
+    shown (L .fuel) (program (tree-of (read (bytesOf s))) (codes-of (tree-of (read (bytesOf s))) (bytesOf s)) L
     (fresh (L .fuel) (replicate (2 * L .bindings) 7) (replicate (2 * L .cells) 7) (replicate (L .output) (pos 7)) (replicate 40 7)))
 
 -- each case's run is what is expected of it
@@ -47,11 +51,12 @@ scripts =
     case "[FUN REC f int [n:int] (if (lt n 1) 0 (add n (f (sub n 1)))); ECHO (f 3)]" (limited 100 9 9 0 1) (ends (stopped (limit DEPTH) 53) 26 5 0 []) ∷
     case "[VAR x int; SET x 0; WHILE (lt x 3) [ECHO x; SET x (add x 1)]]" (limited 100 20 4 4 4) (ends done 37 1 1 (pos 0 ∷ pos 1 ∷ pos 2 ∷ [])) ∷
     case "[CONST x int 1; FUN f int [y:int] x; CONST x int 2; ECHO (f 0)]" (limited 100 20 4 0 1) (ends done 10 4 0 (pos 1 ∷ [])) ∷
+    case "[CONST a int 1; CONST b int 2; FUN REC f int [x:int, a:int] (if (lt x 1) (add a b) (f (sub x 1) (add a x))); CONST a int 7; ECHO (f 2 a); ECHO a]" (limited 100 20 20 0 2) (ends done 45 13 0 (pos 12 ∷ pos 7 ∷ [])) ∷
     case "[VAR x bool; ECHO (if (and false x) 1 (div -7 2))]" (limited 100 20 4 1 1) (ends done 8 1 1 (negsuc 3 ∷ [])) ∷
     case "[ECHO (mul 3037000499 3037000499); ECHO (sub -9223372036854775807 1); ECHO (div (sub -9223372036854775807 1) -1)]" (limited 100 20 4 1 4)
     (ends (stopped (error RANGE) 75) 14 0 0 (pos 9223372030926249001 ∷ negsuc 9223372036854775807 ∷ [])) ∷
     []
 
 scripts-shown : AllShown scripts
-unfolding read wordsFrom parse add-leaf add-fork link set-sib retype descent past deep table enc size first shapeType shapeTypes shapeArg shapeArgs shapeArgP shapeArgsP shapeExpr shapeExprs shapeExprP shapeExprsP shapeCmds shapeDef shapeStat shapeBlock meaning nodeAt numberAt pick rowAfter rowAt putRow bindingAt putBinding closureWord nodeOf envOf andThen guard meaningAt sameName walk boundTo addressOf readThrough nameBy nameValue numeralAt computedBy negated combined isParam bodyAfter bindAll enter enterAgain openFunction openProcedure define defineCell onBit args allArgs ifE andE orE operatorE callE operatorAt applyE exprBy constC echoC setC blockC ifC callC round rounds cmdBy cmdIn cmds step bottom evaluators blockAt program
-scripts-shown = (refl, (refl, (refl, (refl, (refl, (refl, (refl, (refl, tt))))))))
+unfolding read wordsFrom parse add-leaf add-fork link set-sib retype descent past deep table enc size first shapeType shapeTypes shapeArg shapeArgs shapeArgP shapeArgsP shapeExpr shapeExprs shapeExprP shapeExprsP shapeCmds shapeDef shapeStat shapeBlock meaning nodeAt numberAt pick rowAfter rowAt putRow bindingAt putBinding closureWord nodeOf envOf andThen guard codeOver levelIn operatorAt codeFor after ownOf entry rowCodes codesOf codeIn jumpIn jumpFrom bindingBehind walk boundTo addressOf readThrough nameValue computedBy negated combined isParam bodyAfter bindAll enter enterAgain openFunction openProcedure define defineCell onBit args allArgs ifE andE orE operatorE callE applyE exprBy constC echoC setC blockC ifC callC round rounds cmdBy cmdIn cmds step bottom evaluators blockAt program
+scripts-shown = (refl, (refl, (refl, (refl, (refl, (refl, (refl, (refl, (refl, tt)))))))))

@@ -8,28 +8,29 @@ use native.Mathlib.Nat.{le-refl, not-suc-le-zero}
 use native.Mathlib.Omega.{arith}
 use lib.Dec.{T, eqb, eqb→eq}
 use lib.ListN.{length}
+use mir.Syntax.{w64}
+use mir.Val.{ofZ}
 use Rattle.language.specs.Syntax.{Expr, if-expr, and, or, Exprs, ExprP}
-use Rattle.language.specs.Names.{Op, operator}
-use Rattle.language.specs.Numbers.{ranged}
+use Rattle.language.specs.Names.{Op, operator, head-operator}
 use Rattle.language.specs.Rules.{Val, inZ, Env, State, Outcome, ok, bind, Level, exprs, args, apply-rule, expr-rule, arg-rule, open-function}
 use Rattle.nodes.specs.Names.{meaningNo}
 use Rattle.nodes.specs.Written.{Numeral, numberAt}
 use Rattle.nodes.specs.Trees.{kind, place, child, next, AtE, at-num, at-name, at-if, at-and, at-or, at-app, at-abs, AtEs, at-one-expr, at-more-exprs, AtA, at-val, at-adr, AtAs, at-no-arg, at-more-args}
 use Rattle.nodes.proofs.Laws.{expr-there, exprs-there, arg-there}
 use Rattle.machine.specs.declared.Ending.the-variants.{Value}
-use Rattle.machine.specs.Entries.{pick, done-tag, ring-rows}
+use Rattle.machine.specs.Entries.{pick, number-tag, done-tag, ring-rows}
+use Rattle.machine.specs.Codes.{operatorNo, CodedE, CodedEs, CodedA, CodedAs}
 use Rattle.machine.specs.State.{Tables, Ret, is, spend, push}
-use Rattle.machine.specs.Leaves.{numeralAt}
 use Rattle.machine.specs.Machine.{Evaluators, allArgs, ifE, andE, orE, operatorE, callE, applyE, exprBy}
 use Rattle.machine.specs.Machine as M
 use Rattle.machine.proofs.Entries.{row-own, row-other, child-small}
-use Rattle.machine.proofs.Relation.{Stage, run-of, slot, v-num, w-none, w-more, R, Grow, Sim, goes, IsVal, Some, Waiting, Here, Adeq, node}
+use Rattle.machine.proofs.Relation.{Stage, run-of, slot, v-num, w-none, w-more, R, Grow, Sim, goes, IsVal, Some, Waiting, Here, Adeq, node, code, scope, InE, InEs, InAs}
 use Rattle.machine.proofs.Agree.{keep, grow-self, sim-lift, relax, some-sim, making, sim-yes, sim-no, sim-bind, sim-each, sim-call, sim-stuck, sim-map, sim-ok, sim-after, bind-ok, sim-bit}
 use Rattle.machine.proofs.States.{r-push}
 use Rattle.machine.proofs.Closures.{function-value}
 use Rattle.machine.proofs.Enter.{after-slot, function-sim, sim-open}
 use Rattle.machine.proofs.Operate.{in-range-fits, number-val, unary-sim, binary-sim, more-stuck}
-use Rattle.machine.proofs.Names.{address-sim, name-sim, Head, no-operator, an-operator, operator-number, head-is}
+use Rattle.machine.proofs.Names.{address-sim, name-sim, operator-number}
 
 other-slot : (k top : ℕ) → k < top → top < k + ring-rows → slot k ≢ slot top
 other-slot k top h l = omega arith
@@ -86,82 +87,81 @@ module _ {g : Stage} where
   no-more S (suc k) env top n i c e r = rw e (sim-yes _ _ tt (no-value _ top n r))
 
   module _ {l : Level} {S : Evaluators} (h : Adeq g l S) where
-    exprs-sim : {i : ℕ} {es : Exprs} → AtEs g.script i es → (k n top : ℕ) {ρ : Env} {env : ℕ} {s : State} {m : Tables} → m .counts .units < k →
-        Here g ρ env s m → Sim g (Some g (Waiting g m top n)) 0 m (exprs l es ρ s) (M.args (run-of g) k S env (slot top) n i m)
+    exprs-sim : {i : ℕ} {es : Exprs} → AtEs g.script i es → (k n top : ℕ) {ρ : Env} {env : ℕ} {s : State} {m : Tables} → CodedEs g.script g.codes (scope ρ) i es →
+        m .counts .units < k → Here g ρ env s m → Sim g (Some g (Waiting g m top n)) 0 m (exprs l es ρ s) (M.args (run-of g) k S env (slot top) n i m)
     unfolding M.args
-    exprs-sim a zero n top c x = absurd (not-suc-le-zero c)
-    exprs-sim (at-one-expr {i = i} a z) (suc k) n top {env = env} c x =
-        sim-no _ _ (λ t. expr-there a (eqb→eq _ _ t)) (sim-each (h .onE {sp = top} a x) λ u s₁ t y m₁ v r₁ gr.
+    exprs-sim a zero n top q c x = absurd (not-suc-le-zero c)
+    exprs-sim (at-one-expr {i = i} a z) (suc k) n top {env = env} q c x =
+        sim-no _ _ (λ t. expr-there a (eqb→eq _ _ t)) (sim-each (h .onE {sp = top} (record { at = a; coded = q }) x) λ u s₁ t y m₁ v r₁ gr.
         rw (after-slot top) (one-sim (wait-sim n top t y (v .it) r₁ gr
         (no-more S k env (suc top) (suc n) (next g.script i) (omega (arith, v .less)) z (r-push r₁ (slot top) t y (omega arith))))))
-    exprs-sim (at-more-exprs {i = i} a as′) (suc k) n top {env = env} c x =
-        sim-no _ _ (λ t. expr-there a (eqb→eq _ _ t)) (sim-each (h .onE {sp = top} a x) λ u s₁ t y m₁ v r₁ gr.
+    exprs-sim (at-more-exprs {i = i} a as′) (suc k) n top {env = env} q c x =
+        sim-no _ _ (λ t. expr-there a (eqb→eq _ _ t)) (sim-each (h .onE {sp = top} (record { at = a; coded = q .0 }) x) λ u s₁ t y m₁ v r₁ gr.
         rw (after-slot top) (wait-sim n top t y (v .it) r₁ gr
-        (some-sim (exprs-sim as′ k (suc n) (suc top) (omega (arith, v .less)) (onward (onward x r₁ gr) (r-push r₁ (slot top) t y (omega arith)) (pushing top t y m₁))))))
+        (some-sim (exprs-sim as′ k (suc n) (suc top) (q .1) (omega (arith, v .less)) (onward (onward x r₁ gr) (r-push r₁ (slot top) t y (omega arith)) (pushing top t y m₁))))))
 
-    args-sim : {i : ℕ} {es : List ExprP} → AtAs g.script i es → (k n top : ℕ) {ρ : Env} {env : ℕ} {s : State} {m : Tables} → m .counts .units < k →
-        Here g ρ env s m → Sim g (Waiting g m top n) 0 m (args l es ρ s) (M.args (run-of g) k S env (slot top) n i m)
+    args-sim : {i : ℕ} {es : List ExprP} → AtAs g.script i es → (k n top : ℕ) {ρ : Env} {env : ℕ} {s : State} {m : Tables} → CodedAs g.script g.codes (scope ρ) i es →
+        m .counts .units < k → Here g ρ env s m → Sim g (Waiting g m top n) 0 m (args l es ρ s) (M.args (run-of g) k S env (slot top) n i m)
     unfolding M.args
-    args-sim a zero n top c x = absurd (not-suc-le-zero c)
-    args-sim at-no-arg (suc k) n top c x = sim-yes _ _ tt (no-value _ top n (x .st))
-    args-sim (at-more-args {i = i} a as′) (suc k) n top {env = env} c x =
-        sim-no _ _ (λ t. arg-there a (eqb→eq _ _ t)) (sim-each (h .onA {sp = top} a x) λ u s₁ t y m₁ v r₁ gr.
+    args-sim a zero n top q c x = absurd (not-suc-le-zero c)
+    args-sim at-no-arg (suc k) n top q c x = sim-yes _ _ tt (no-value _ top n (x .st))
+    args-sim (at-more-args {i = i} a as′) (suc k) n top {env = env} q c x =
+        sim-no _ _ (λ t. arg-there a (eqb→eq _ _ t)) (sim-each (h .onA {sp = top} (record { at = a; coded = q .0 }) x) λ u s₁ t y m₁ v r₁ gr.
         rw (after-slot top) (some-sim (wait-sim n top t y (v .it) r₁ gr
-        (args-sim as′ k (suc n) (suc top) (omega (arith, v .less)) (onward (onward x r₁ gr) (r-push r₁ (slot top) t y (omega arith)) (pushing top t y m₁))))))
+        (args-sim as′ k (suc n) (suc top) (q .1) (omega (arith, v .less)) (onward (onward x r₁ gr) (r-push r₁ (slot top) t y (omega arith)) (pushing top t y m₁))))))
 
     -- all arguments of an application, and of a CALL
-    all-exprs : {i : ℕ} {es : Exprs} {ρ : Env} {env : ℕ} (sp : ℕ) {s : State} {m : Tables} → AtEs g.script i es → Here g ρ env s m →
+    all-exprs : {i : ℕ} {es : Exprs} {ρ : Env} {env : ℕ} (sp : ℕ) {s : State} {m : Tables} → InEs g (scope ρ) i es → Here g ρ env s m →
         Sim g (Some g (Waiting g m sp 0)) 0 m (exprs l es ρ s) (allArgs (run-of g) S env (slot sp) i m)
     unfolding allArgs
-    all-exprs sp a x = exprs-sim a _ 0 sp (le-refl _) x
+    all-exprs sp a x = exprs-sim (a .at) _ 0 sp (a .coded) (le-refl _) x
 
-    pub all-args : {i : ℕ} {es : List ExprP} {ρ : Env} {env : ℕ} (sp : ℕ) {s : State} {m : Tables} → AtAs g.script i es → Here g ρ env s m →
+    pub all-args : {i : ℕ} {es : List ExprP} {ρ : Env} {env : ℕ} (sp : ℕ) {s : State} {m : Tables} → InAs g (scope ρ) i es → Here g ρ env s m →
         Sim g (Waiting g m sp 0) 0 m (args l es ρ s) (allArgs (run-of g) S env (slot sp) i m)
     unfolding allArgs
-    all-args sp a x = args-sim a _ 0 sp (le-refl _) x
+    all-args sp a x = args-sim (a .at) _ 0 sp (a .coded) (le-refl _) x
 
     -- ---- the forms
 
-    if-sim : (i : ℕ) {a b c : Expr} {ρ : Env} {env sp : ℕ} {s : State} {m : Tables} → AtE g.script (child g.script i) a →
-        AtE g.script (next g.script (child g.script i)) b → AtE g.script (next g.script (next g.script (child g.script i))) c → Here g ρ env s m →
+    if-sim : (i : ℕ) {a b c : Expr} {ρ : Env} {env sp : ℕ} {s : State} {m : Tables} → InE g (scope ρ) (child g.script i) a →
+        InE g (scope ρ) (next g.script (child g.script i)) b → InE g (scope ρ) (next g.script (next g.script (child g.script i))) c → Here g ρ env s m →
         Sim g (IsVal g) sp m (expr-rule g.limits l (if-expr (place g.script i) a b c) ρ s) (ifE (run-of g) S env (slot sp) (node g i) m)
     unfolding ifE
     if-sim i a b c x = sim-bind (h .onE a x) λ u s₁ t y m₁ v r₁ gr. sim-bit _ (v .it) r₁ (relax (h .onE b (onward x r₁ gr))) (relax (h .onE c (onward x r₁ gr)))
 
-    and-sim : (i : ℕ) {a b : Expr} {ρ : Env} {env sp : ℕ} {s : State} {m : Tables} → AtE g.script (child g.script i) a →
-        AtE g.script (next g.script (child g.script i)) b → Here g ρ env s m →
+    and-sim : (i : ℕ) {a b : Expr} {ρ : Env} {env sp : ℕ} {s : State} {m : Tables} → InE g (scope ρ) (child g.script i) a →
+        InE g (scope ρ) (next g.script (child g.script i)) b → Here g ρ env s m →
         Sim g (IsVal g) sp m (expr-rule g.limits l (and (place g.script i) a b) ρ s) (andE (run-of g) S env (slot sp) (node g i) m)
     unfolding andE
     and-sim i a b x = sim-bind (h .onE a x) λ u s₁ t y m₁ v r₁ gr. sim-bit _ (v .it) r₁ (relax (h .onE b (onward x r₁ gr))) (goes (v-num 0) r₁ grow-self)
 
-    or-sim : (i : ℕ) {a b : Expr} {ρ : Env} {env sp : ℕ} {s : State} {m : Tables} → AtE g.script (child g.script i) a →
-        AtE g.script (next g.script (child g.script i)) b → Here g ρ env s m →
+    or-sim : (i : ℕ) {a b : Expr} {ρ : Env} {env sp : ℕ} {s : State} {m : Tables} → InE g (scope ρ) (child g.script i) a →
+        InE g (scope ρ) (next g.script (child g.script i)) b → Here g ρ env s m →
         Sim g (IsVal g) sp m (expr-rule g.limits l (or (place g.script i) a b) ρ s) (orE (run-of g) S env (slot sp) (node g i) m)
     unfolding orE
     or-sim i a b x = sim-bind (h .onE a x) λ u s₁ t y m₁ v r₁ gr. sim-bit _ (v .it) r₁ (goes (v-num 1) r₁ grow-self) (relax (h .onE b (onward x r₁ gr)))
 
     -- the first argument, the second, and no third
     operator-sim : (i : ℕ) (f : Op) (e : Expr) {es : Exprs} {ρ : Env} {env sp : ℕ} {s : State} {m : Tables} →
-        AtEs g.script (next g.script (child g.script i)) es →
-        Here g ρ env s m →
+        AtEs g.script (next g.script (child g.script i)) es → CodedEs g.script g.codes (scope ρ) (next g.script (child g.script i)) es → Here g ρ env s m →
         Sim g (IsVal g) sp m (apply-rule g.limits l (some f) (place g.script i) e es ρ s)
         (operatorE (run-of g) (meaningNo (operator f)) S env (slot sp) (node g i) m)
     unfolding operatorE
-    operator-sim i f e (at-one-expr a z) x =
-        sim-after _ _ _ (sim-bind (h .onE a x) λ u s₁ t y m₁ v r₁ gr. sim-ok _ _ _ (sim-yes _ _ (zero-is z) (unary-sim f _ (v .it) r₁)))
-    operator-sim i f e (at-more-exprs a (at-one-expr b z)) x =
-        sim-after _ _ _ (sim-bind (h .onE a x) λ u s₁ t y m₁ v r₁ gr. sim-no _ _ (λ q. expr-there b (eqb→eq _ _ q))
-        (sim-after _ _ _ (sim-after _ _ _ (sim-bind (h .onE b (onward x r₁ gr)) λ u₂ s₂ t₂ y₂ m₂ v₂ r₂ gr₂.
+    operator-sim i f e (at-one-expr a z) q x =
+        sim-after _ _ _ (sim-bind (h .onE (record { at = a; coded = q }) x) λ u s₁ t y m₁ v r₁ gr. sim-ok _ _ _ (sim-yes _ _ (zero-is z) (unary-sim f _ (v .it) r₁)))
+    operator-sim i f e (at-more-exprs a (at-one-expr b z)) q x =
+        sim-after _ _ _ (sim-bind (h .onE (record { at = a; coded = q .0 }) x) λ u s₁ t y m₁ v r₁ gr. sim-no _ _ (λ w. expr-there b (eqb→eq _ _ w))
+        (sim-after _ _ _ (sim-after _ _ _ (sim-bind (h .onE (record { at = b; coded = q .1 }) (onward x r₁ gr)) λ u₂ s₂ t₂ y₂ m₂ v₂ r₂ gr₂.
         sim-ok _ _ _ (sim-ok _ _ _ (sim-yes _ _ (zero-is z) (binary-sim f _ (keep (v .it) (gr₂ .more) (gr₂ .old)) (v₂ .it) r₂)))))))
-    operator-sim i f e {sp = sp} (at-more-exprs a (at-more-exprs b cs)) x =
-        sim-after _ _ _ (sim-bind (h .onE a x) λ u s₁ t y m₁ v r₁ gr. sim-no _ _ (λ q. expr-there b (eqb→eq _ _ q))
-        (sim-after _ _ _ (sim-after _ _ _ (sim-bind (h .onE b (onward x r₁ gr)) λ u₂ s₂ t₂ y₂ m₂ v₂ r₂ gr₂.
-        sim-no _ _ (λ q. exprs-there cs (eqb→eq _ _ q))
-        (sim-after _ _ _ (sim-stuck (all-exprs sp cs (onward (onward x r₁ gr) r₂ gr₂)) _ λ us s₃ t₃ n m₃ w.
+    operator-sim i f e {sp = sp} (at-more-exprs a (at-more-exprs b cs)) q x =
+        sim-after _ _ _ (sim-bind (h .onE (record { at = a; coded = q .0 }) x) λ u s₁ t y m₁ v r₁ gr. sim-no _ _ (λ w. expr-there b (eqb→eq _ _ w))
+        (sim-after _ _ _ (sim-after _ _ _ (sim-bind (h .onE (record { at = b; coded = q .1 .0 }) (onward x r₁ gr)) λ u₂ s₂ t₂ y₂ m₂ v₂ r₂ gr₂.
+        sim-no _ _ (λ w. exprs-there cs (eqb→eq _ _ w))
+        (sim-after _ _ _ (sim-stuck (all-exprs sp (record { at = cs; coded = q .1 .1 }) (onward (onward x r₁ gr) r₂ gr₂)) _ λ us s₃ t₃ n m₃ w.
         bind-ok _ _ _ ∙ (bind-ok _ _ _ ∙ more-stuck f u u₂ us _ s₃ (w .some))))))))
 
-    call-sim : (i : ℕ) {f : Expr} {es : Exprs} {ρ : Env} {env sp : ℕ} {s : State} {m : Tables} → AtE g.script (child g.script i) f →
-        AtEs g.script (next g.script (child g.script i)) es → Here g ρ env s m →
+    call-sim : (i : ℕ) {f : Expr} {es : Exprs} {ρ : Env} {env sp : ℕ} {s : State} {m : Tables} → InE g (scope ρ) (child g.script i) f →
+        InEs g (scope ρ) (next g.script (child g.script i)) es → Here g ρ env s m →
         Sim g (IsVal g) sp m (apply-rule g.limits l none (place g.script i) f es ρ s) (callE (run-of g) S env (slot sp) (node g i) m)
     unfolding callE
     call-sim i {sp = sp} f a x =
@@ -169,42 +169,43 @@ module _ {g : Stage} where
         sim-call (some-sim (all-exprs sp a (onward x r₁ gr))) λ us s₂ k n m₂ w r₂ gr₂.
         sim-open (open-function u us) _ s₂ (λ c s₃. l .expr (c .body) (c .env) s₃) (function-sim _ k n (keep (v .it) (gr₂ .more) (gr₂ .old)) w r₂)
         λ c s₃ env₁ j m₃ b r₃ gr₃.
-        making (length us) (b .made) (relax (h .onE (b .it .body-at) (record { names′ = b .it .in-env; st = r₃ })))
+        making (length us) (b .made) (relax (h .onE (b .it .body-in) (record { names′ = b .it .in-env; st = r₃ })))
 
-    apply-sim : (i : ℕ) {k : ℕ} {o : Option Op} {f : Expr} {es : Exprs} {ρ : Env} {env sp : ℕ} {s : State} {m : Tables} → Head o k →
-        AtE g.script (child g.script i) f →
-        AtEs g.script (next g.script (child g.script i)) es → Here g ρ env s m →
-        Sim g (IsVal g) sp m (apply-rule g.limits l o (place g.script i) f es ρ s) (applyE (run-of g) k S env (slot sp) (node g i) m)
+    apply-sim : (i : ℕ) (o : Option Op) {f : Expr} {es : Exprs} {ρ : Env} {env sp : ℕ} {s : State} {m : Tables} → InE g (scope ρ) (child g.script i) f →
+        InEs g (scope ρ) (next g.script (child g.script i)) es → Here g ρ env s m →
+        Sim g (IsVal g) sp m (apply-rule g.limits l o (place g.script i) f es ρ s) (applyE (run-of g) (operatorNo o) S env (slot sp) (node g i) m)
     unfolding applyE
-    apply-sim i (no-operator n) f a x = sim-yes _ _ n (call-sim i f a x)
-    apply-sim i {f = e} (an-operator o) f a x = sim-no _ _ (operator-number o) (operator-sim i o e a x)
+    apply-sim i none f a x = sim-yes _ _ tt (call-sim i f a x)
+    apply-sim i (some o) {f = e} f a x = sim-no _ _ (operator-number o) (operator-sim i o e (a .at) (a .coded) x)
 
-    number-sim : (i : ℕ) {ρ : Env} {env sp : ℕ} {s : State} {m : Tables} → Numeral (g.script .text) (place g.script i) → Here g ρ env s m →
-        Sim g (IsVal g) sp m (ok (inZ (numberAt (g.script .text) (place g.script i))) s) (is (numeralAt (g.script .text) (place g.script i)) m)
-    unfolding numeralAt
-    number-sim i n x = rw (n .ranged) (goes (number-val _ (in-range-fits _ (n .ranged))) (x .st) grow-self)
+    number-sim : (i : ℕ) {ρ : Env} {env sp : ℕ} {s : State} {m : Tables} → Numeral (g.script .text) (place g.script i) →
+        code g i ≡ ofZ w64 (numberAt (g.script .text) (place g.script i)) → Here g ρ env s m →
+        Sim g (IsVal g) sp m (ok (inZ (numberAt (g.script .text) (place g.script i))) s) (is (Value number-tag (code g i)) m)
+    number-sim i n q x = rw q (goes (number-val _ (in-range-fits _ (n .ranged))) (x .st) grow-self)
 
     -- ---- by kind
 
-    by-kind : (k i env : ℕ) {o : Outcome Val} {sp : ℕ} {m : Tables} → kind g.script i ≡ k → Sim g (IsVal g) sp m o (exprBy (run-of g) k S env (slot sp) (node g i) m) →
-        Sim g (IsVal g) sp m o (exprBy (run-of g) (kind g.script i) S env (slot sp) (node g i) m)
-    by-kind k i env {o} {sp} {m} e f = subst (λ (j : ℕ). Sim g (IsVal g) sp m o (exprBy (run-of g) j S env (slot sp) (node g i) m)) (sym e) f
+    by-kind : (k i env : ℕ) {o : Outcome Val} {sp : ℕ} {m : Tables} → kind g.script i ≡ k → Sim g (IsVal g) sp m o (exprBy (run-of g) k (code g i) S env (slot sp) (node g i) m) →
+        Sim g (IsVal g) sp m o (exprBy (run-of g) (kind g.script i) (code g i) S env (slot sp) (node g i) m)
+    by-kind k i env {o} {sp} {m} e f = subst (λ (j : ℕ). Sim g (IsVal g) sp m o (exprBy (run-of g) j (code g i) S env (slot sp) (node g i) m)) (sym e) f
 
-    pub expr-sim : {i : ℕ} {e : Expr} {ρ : Env} {env sp : ℕ} {s : State} {m : Tables} → AtE g.script i e → Here g ρ env s m →
-        Sim g (IsVal g) sp m (expr-rule g.limits l e ρ s) (exprBy (run-of g) (kind g.script i) S env (slot sp) (node g i) m)
+    pub expr-sim : {i : ℕ} {e : Expr} {ρ : Env} {env sp : ℕ} {s : State} {m : Tables} → AtE g.script i e → CodedE g.script g.codes (scope ρ) i e → Here g ρ env s m →
+        Sim g (IsVal g) sp m (expr-rule g.limits l e ρ s) (exprBy (run-of g) (kind g.script i) (code g i) S env (slot sp) (node g i) m)
     unfolding exprBy pick
-    expr-sim (at-num k n) x = by-kind 18 _ _ (k .kind-is) (number-sim _ n x)
-    expr-sim (at-name k) x = by-kind 19 _ _ (k .kind-is) (name-sim _ (x .names′) (x .st))
-    expr-sim (at-if k a b c z) x = by-kind 20 _ _ (k .kind-is) (if-sim _ a b c x)
-    expr-sim (at-and k a b z) x = by-kind 21 _ _ (k .kind-is) (and-sim _ a b x)
-    expr-sim (at-or k a b z) x = by-kind 22 _ _ (k .kind-is) (or-sim _ a b x)
-    expr-sim (at-app k f as′) x = by-kind 23 _ _ (k .kind-is) (apply-sim _ (head-is g f) f as′ x)
-    expr-sim (at-abs {i = i} k ps a z) x =
+    expr-sim (at-num k n) q x = by-kind 18 _ _ (k .kind-is) (number-sim _ n q x)
+    expr-sim (at-name {i = i} k) q x = by-kind 19 _ _ (k .kind-is) (name-sim (place g.script i) q (x .names′) (x .st))
+    expr-sim (at-if k a b c z) q x =
+        by-kind 20 _ _ (k .kind-is) (if-sim _ (record { at = a; coded = q .0 }) (record { at = b; coded = q .1 }) (record { at = c; coded = q .2 }) x)
+    expr-sim (at-and k a b z) q x = by-kind 21 _ _ (k .kind-is) (and-sim _ (record { at = a; coded = q .0 }) (record { at = b; coded = q .1 }) x)
+    expr-sim (at-or k a b z) q x = by-kind 22 _ _ (k .kind-is) (or-sim _ (record { at = a; coded = q .0 }) (record { at = b; coded = q .1 }) x)
+    expr-sim (at-app {i = i} {f = e} k f as′) q x =
+        by-kind 23 _ _ (k .kind-is) (rw (q .0) (apply-sim _ (head-operator e) (record { at = f; coded = q .1 }) (record { at = as′; coded = q .2 }) x))
+    expr-sim (at-abs {i = i} {j = j} k ps a z) q x =
         by-kind 24 _ _ (k .kind-is)
-        (goes (function-value (x .names′) (x .st) _ (child-small (g.script .tree) i) ps a) (x .st) grow-self)
+        (goes (function-value (x .names′) (x .st) _ (child-small (g.script .tree) i) ps (record { at = a; coded = q j ps })) (x .st) grow-self)
 
-    pub arg-sim : {i : ℕ} {a : ExprP} {ρ : Env} {env sp : ℕ} {s : State} {m : Tables} → AtA g.script i a → Here g ρ env s m →
-        Sim g (IsVal g) sp m (arg-rule g.limits l a ρ s) (exprBy (run-of g) (kind g.script i) S env (slot sp) (node g i) m)
+    pub arg-sim : {i : ℕ} {a : ExprP} {ρ : Env} {env sp : ℕ} {s : State} {m : Tables} → AtA g.script i a → CodedA g.script g.codes (scope ρ) i a → Here g ρ env s m →
+        Sim g (IsVal g) sp m (arg-rule g.limits l a ρ s) (exprBy (run-of g) (kind g.script i) (code g i) S env (slot sp) (node g i) m)
     unfolding exprBy pick
-    arg-sim (at-val a) x = expr-sim a x
-    arg-sim (at-adr k y z) x = by-kind 25 _ _ (k .kind-is) (address-sim _ _ (x .names′) (x .st))
+    arg-sim (at-val a) q x = expr-sim a q x
+    arg-sim (at-adr k y z) q x = by-kind 25 _ _ (k .kind-is) (address-sim _ q (x .names′) (x .st))

@@ -2,8 +2,11 @@ pub mod Examples
 pub mod Members
 pub mod Entries
 pub mod Lists
+pub mod Codes
+pub mod Steps
 pub mod Relation
 pub mod Agree
+pub mod Chain
 pub mod States
 pub mod Enter
 pub mod Operate

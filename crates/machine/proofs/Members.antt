@@ -9,7 +9,7 @@ use Rattle.nodes.specs.Nodes.{nodeAt}
 use Rattle.machine.specs.declared.Ending.{Ending}
 use Rattle.machine.specs.declared.Ending.the-variants.{Value, Stop, NoRule}
 use Rattle.machine.specs.Entries.{pick}
-use Rattle.machine.specs.State.{Run, Tables, Ret, is, valued, spend, guard}
+use Rattle.machine.specs.State.{Run, codeAt, Tables, Ret, is, valued, spend, guard}
 use Rattle.machine.specs.Machine.{Evaluators, args, exprBy, rounds, cmdBy, cmdIn, cmds, step, evaluators, below, exprAt, blockAt, level, cmdAt, whileAt}
 
 pub pick-true : {A : Type 0} (b : Bool) (x y : Unit {0} → A) → T b → pick b x y ≡ x tt
@@ -52,12 +52,12 @@ module _ (g : Run) where
   below-level (suc d) h = ap (level g) (omega arith)
 
   -- the expression i, whose node is n
-  pub expr-is : (d env sp i : ℕ) (m : Tables) (n : Node) → n ≡ nodeAt g.script.tree i →
-      exprAt g d env sp i m ≡ guard d (n .place) m λ m₁. exprBy g (n .kind) (below g d) env sp n m₁
+  pub expr-is : (d env sp i : ℕ) (m : Tables) (n : Node) → n ≡ nodeAt g.tree i →
+      exprAt g d env sp i m ≡ guard d (n .place) m λ m₁. exprBy g (n .kind) (codeAt g i) (below g d) env sp n m₁
   unfolding exprAt step
   expr-is d env sp i m n e =
       ap (λ (S : Evaluators). S .expr env sp i m) (evaluators-step d) ∙
-      ap (λ (a : Node). guard d (a .place) m λ m₁. exprBy g (a .kind) (below g d) env sp a m₁) (sym e)
+      ap (λ (a : Node). guard d (a .place) m λ m₁. exprBy g (a .kind) (codeAt g i) (below g d) env sp a m₁) (sym e)
 
   -- a command that is no WHILE, whose node is n
   pub cmd-is : (d env sp : ℕ) (m : Tables) (n : Node) → (n .kind ≡ 11 → ⊥) →

@@ -1,49 +1,70 @@
 -- Names: looked up, read through, asked for an address, and as the head of an application.
-use mathlib.Core.Path.{_≡_, sym, subst}
-use mathlib.Core.Bool.{Bool, true, false}
-use mathlib.Core.List.{List}
-use mathlib.Core.Option.{Option, none, some}
-use Prim.Native.Nat.{ℕ}
-use native.Mathlib.Nat.{le-refl}
-use lib.Dec.{T, eqb, ltb}
-use Rattle.language.specs.Syntax.{Expr}
-use Rattle.language.specs.Names.{Op, not, eq, lt, add, sub, mul, div, Meaning, literal, operator, free, meaning, unless-nine, operator-of, head-operator}
+use mathlib.Core.Path.{_≡_, refl}
+use mathlib.Core.Bool.{Bool, true, false, cond}
+use mathlib.Core.List.{List, [], _∷_}
+use mathlib.Core.Option.{Option, none}
+use Prim.Native.Nat.{ℕ, suc, _≤_}
+use native.Mathlib.Nat.{le-refl, le-trans}
+use native.Mathlib.Omega.{arith}
+use lib.Dec.{T, eqb, ltb, ltb→lt}
+use Rattle.language.specs.Bytes.{same-bytes}
+use Rattle.language.specs.Syntax.{Name}
+use Rattle.language.specs.Names.{Op, not, eq, lt, add, sub, mul, div, Meaning, literal, operator, free, meaning, unless-nine}
 use Rattle.language.specs.Rules.{Val, inA, Env, State, Outcome, ok, need, look, as-address, give-cell, read, name-rule}
-use Rattle.nodes.specs.Trees.{kind, place, AtE, at-num, at-name, at-if, at-and, at-or, at-app, at-abs}
 use Rattle.nodes.specs.Names.{meaningNo}
 use Rattle.machine.specs.declared.Row.{Row}
 use Rattle.machine.specs.declared.Ending.{Ending}
 use Rattle.machine.specs.declared.Ending.the-variants.{Value, NoRule}
 use Rattle.machine.specs.declared.Ending.the-variants as E
-use Rattle.machine.specs.Entries.{pick, address-tag, unset-tag}
+use Rattle.machine.specs.Entries.{pick, address-tag, unset-tag, first-free, most-steps}
 use Rattle.machine.specs.State.{Tables, Ret, is, andThen, ifValue}
-use Rattle.machine.specs.Leaves.{meaningAt, boundTo, addressOf, readThrough, nameBy, nameValue, walk}
-use Rattle.machine.specs.Machine.{operatorAt}
+use Rattle.machine.specs.Leaves.{boundTo, addressOf, readThrough, nameValue, walk}
+use Rattle.machine.specs.Codes.{codeOver, levelIn, codeBy, Used}
 use Rattle.machine.proofs.Lists.{asks-nth}
-use Rattle.machine.proofs.Relation.{Stage, run-of, v-num, v-fun, v-rec, v-proc, v-proc-rec, v-adr, ValR, EnvR, Found, found, lost, CellR, c-unset, c-set, R, Sim, goes, stops, no-way, IsVal, Named, name-in}
-use Rattle.machine.proofs.Agree.{walk-finds, grow-self, end-need}
+use Rattle.machine.proofs.Relation.{Stage, v-num, v-fun, v-rec, v-proc, v-proc-rec, v-adr, ValR, EnvR, Found, found, lost, CellR, c-unset, c-set, R, Sim, goes, stops, no-way, IsVal, Named, code, scope}
+use Rattle.machine.proofs.Chain.{over-least, name-finds}
+use Rattle.machine.proofs.Agree.{grow-self, end-need}
+
+is-false : (b : Bool) → (T b → ⊥) → b ≡ false
+is-false true h = absurd (h tt)
+is-false false h = refl
+
+-- the code of a name that is none of the nine
+level-least : (Γ : List Name) (x : Name) → first-free ≤ levelIn Γ x
+unfolding levelIn
+level-least [] x = le-refl _
+level-least (y ∷ Γ) x = either (same-bytes y x) (over-least Γ) (level-least Γ x)
+  where
+    either : (b : Bool) → first-free ≤ codeOver Γ → first-free ≤ levelIn Γ x → first-free ≤ cond b (suc (codeOver Γ)) (levelIn Γ x)
+    either true h l = omega arith
+    either false h l = l
+
+not-nine : (Γ : List Name) (x : Name) → ltb (levelIn Γ x) first-free ≡ false
+not-nine Γ x = is-false _ λ t. let l = ltb→lt (levelIn Γ x) first-free t in let h = level-least Γ x in omega (arith, l, h)
 
 module _ {g : Stage} where
+  few : {s : State} {m : Tables} → R g s m → m .counts .bindings ≤ 4096
+  few r = le-trans (r .bindings-in) (r .roomy .few-bindings)
+
   -- ---- looked up
 
-  bound-by : (k : Meaning) {b : List ℕ} {c : ℕ} {o : Option Val} {e : Ending} → Found g b c o e →
-      Found g b c (unless-nine k o) (pick (eqb (meaningNo k) 0) (λ _. e) λ _. NoRule)
-  unfolding pick
-  bound-by free h = h
-  bound-by (literal true) h = lost
-  bound-by (literal false) h = lost
-  bound-by (operator not) h = lost
-  bound-by (operator eq) h = lost
-  bound-by (operator lt) h = lost
-  bound-by (operator add) h = lost
-  bound-by (operator sub) h = lost
-  bound-by (operator mul) h = lost
-  bound-by (operator div) h = lost
+  bound-by : (k : Meaning) (y env : ℕ) {b : List ℕ} {c : ℕ} {o : Option Val} → ltb y first-free ≡ false → Found g b c o (walk b y most-steps env) →
+      Found g b c (unless-nine k o) (boundTo b (codeBy k y) env)
+  unfolding boundTo pick
+  bound-by free y env e h = rw (e, pick) h
+  bound-by (literal true) y env e h = lost
+  bound-by (literal false) y env e h = lost
+  bound-by (operator not) y env e h = lost
+  bound-by (operator eq) y env e h = lost
+  bound-by (operator lt) y env e h = lost
+  bound-by (operator add) y env e h = lost
+  bound-by (operator sub) y env e h = lost
+  bound-by (operator mul) y env e h = lost
+  bound-by (operator div) y env e h = lost
 
-  pub bound-finds : {b : List ℕ} {c : ℕ} {ρ : Env} {e : ℕ} → EnvR g b c ρ e → (q : ℕ) →
-      Found g b c (look ρ (name-in g q)) (boundTo (g.script .text) b q c e)
-  unfolding boundTo meaningAt
-  bound-finds e q = bound-by (meaning (name-in g q)) (walk-finds e q _ (le-refl _))
+  bound-finds : {b : List ℕ} {c : ℕ} {ρ : Env} {e : ℕ} → EnvR g b c ρ e → c ≤ 4096 → {q : ℕ} {x : Name} → Used g.script g.codes (scope ρ) q x →
+      Found g b c (look ρ x) (boundTo b (code g q) e)
+  bound-finds {ρ = ρ} e l {x = x} z = rw (z .code-is) (bound-by (meaning x) _ _ (not-nine (scope ρ) x) (name-finds e l x))
 
   module _ {B : Type 0} {P : B → (t x : ℕ) → Tables → Type 0} where
     found-sim : {b : List ℕ} {c : ℕ} {o : Option Val} {e : Ending} (p : ℕ) {s : State} {sp : ℕ} {m : Tables} {k : Val → Outcome B} (k′ : ℕ → ℕ → Tables → Ret) →
@@ -52,11 +73,11 @@ module _ {g : Stage} where
     found-sim p k′ (found u) s f = f _ _ _ u
     found-sim p k′ lost s f = no-way s
 
-    pub sim-look : {ρ : Env} {env : ℕ} (p q : ℕ) {s : State} {sp : ℕ} {m : Tables} {k : Val → Outcome B} (k′ : ℕ → ℕ → Tables → Ret) →
-        Named g ρ env m → R g s m →
+    pub sim-look : {ρ : Env} {env q : ℕ} {y : Name} (p : ℕ) {s : State} {sp : ℕ} {m : Tables} {k : Val → Outcome B} (k′ : ℕ → ℕ → Tables → Ret) →
+        Used g.script g.codes (scope ρ) q y → Named g ρ env m → R g s m →
         ((u : Val) (t x : ℕ) → IsVal g u t x m → Sim g P sp m (k u) (k′ t x m)) →
-        Sim g P sp m (need (look ρ (name-in g q)) p s k) (andThen (is (boundTo (g.script .text) (m .bindings) q (m .counts .bindings) env) m) k′)
-    sim-look p q k′ n s f = found-sim p k′ (bound-finds n q) s f
+        Sim g P sp m (need (look ρ y) p s k) (andThen (is (boundTo (m .bindings) (code g q) env) m) k′)
+    sim-look p k′ z n s f = found-sim p k′ (bound-finds n (few s) z) s f
 
     -- ---- asked for an address
 
@@ -73,12 +94,12 @@ module _ {g : Stage} where
     located p k′ (found (v-proc-rec a b n)) s f = no-way s
     located p k′ (found (v-adr {a = a})) s f = f a
 
-    pub sim-address : {ρ : Env} {env : ℕ} (p q : ℕ) {s : State} {sp : ℕ} {m : Tables} {k : ℕ → Outcome B} (k′ : ℕ → ℕ → Tables → Ret) →
-        Named g ρ env m → R g s m → ((a : ℕ) → Sim g P sp m (k a) (k′ address-tag a m)) →
-        Sim g P sp m (need (look ρ (name-in g q)) p s λ v. need (as-address v) p s k)
-        (andThen (is (addressOf (g.script .text) (m .bindings) q (m .counts .bindings) env) m) k′)
+    pub sim-address : {ρ : Env} {env q : ℕ} {y : Name} (p : ℕ) {s : State} {sp : ℕ} {m : Tables} {k : ℕ → Outcome B} (k′ : ℕ → ℕ → Tables → Ret) →
+        Used g.script g.codes (scope ρ) q y → Named g ρ env m → R g s m → ((a : ℕ) → Sim g P sp m (k a) (k′ address-tag a m)) →
+        Sim g P sp m (need (look ρ y) p s λ v. need (as-address v) p s k)
+        (andThen (is (addressOf (m .bindings) (code g q) env) m) k′)
     unfolding addressOf
-    sim-address p q k′ n s f = located p k′ (bound-finds n q) s f
+    sim-address p k′ z n s f = located p k′ (bound-finds n (few s) z) s f
 
   -- the address itself
   found-address : {b : List ℕ} {c : ℕ} {o : Option Val} {e : Ending} (p : ℕ) {s : State} {sp : ℕ} {m : Tables} → Found g b c o e → R g s m →
@@ -93,11 +114,11 @@ module _ {g : Stage} where
   found-address p (found (v-proc-rec a b n)) s = no-way s
   found-address p (found v-adr) s = goes v-adr s grow-self
 
-  pub address-sim : {ρ : Env} {env : ℕ} (p q : ℕ) {s : State} {sp : ℕ} {m : Tables} → Named g ρ env m → R g s m →
-      Sim g (IsVal g) sp m (need (look ρ (name-in g q)) p s λ v. need (as-address v) p s λ a. ok (inA a) s)
-      (is (addressOf (g.script .text) (m .bindings) q (m .counts .bindings) env) m)
+  pub address-sim : {ρ : Env} {env q : ℕ} {y : Name} (p : ℕ) {s : State} {sp : ℕ} {m : Tables} → Used g.script g.codes (scope ρ) q y → Named g ρ env m → R g s m →
+      Sim g (IsVal g) sp m (need (look ρ y) p s λ v. need (as-address v) p s λ a. ok (inA a) s)
+      (is (addressOf (m .bindings) (code g q) env) m)
   unfolding addressOf
-  address-sim p q n s = found-address p (bound-finds n q) s
+  address-sim p z n s = found-address p (bound-finds n (few s) z) s
 
   -- ---- read
 
@@ -137,40 +158,28 @@ module _ {g : Stage} where
   free-sim p (found u) r = read-sim p u r
   free-sim p lost r = no-way r
 
-  name-by : (k : Meaning) (p env : ℕ) {sp : ℕ} {s : State} {m : Tables} {o : Option Val} →
-      Found g (m .bindings) (m .counts .bindings) o (walk (g.script .text) (m .bindings) p (m .counts .bindings) env) → R g s m →
+  name-by : (k : Meaning) (y p env : ℕ) {sp : ℕ} {s : State} {m : Tables} {o : Option Val} → ltb y first-free ≡ false →
+      Found g (m .bindings) (m .counts .bindings) o (walk (m .bindings) y most-steps env) → R g s m →
       Sim g (IsVal g) sp m (name-rule k (unless-nine k o) p s)
-      (is (nameBy (meaningNo k) (g.script .text) (m .bindings) (m .cells) p (m .counts .bindings) (m .counts .cells) env) m)
-  unfolding nameBy pick
-  name-by free p env h r = free-sim p h r
-  name-by (literal true) p env h r = goes (v-num 1) r grow-self
-  name-by (literal false) p env h r = goes (v-num 0) r grow-self
-  name-by (operator not) p env h r = no-way r
-  name-by (operator eq) p env h r = no-way r
-  name-by (operator lt) p env h r = no-way r
-  name-by (operator add) p env h r = no-way r
-  name-by (operator sub) p env h r = no-way r
-  name-by (operator mul) p env h r = no-way r
-  name-by (operator div) p env h r = no-way r
+      (is (nameValue (m .bindings) (m .cells) (codeBy k y) p (m .counts .cells) env) m)
+  unfolding nameValue pick
+  name-by free y p env e h r = rw (e, pick) (free-sim p h r)
+  name-by (literal true) y p env e h r = goes (v-num 1) r grow-self
+  name-by (literal false) y p env e h r = goes (v-num 0) r grow-self
+  name-by (operator not) y p env e h r = no-way r
+  name-by (operator eq) y p env e h r = no-way r
+  name-by (operator lt) y p env e h r = no-way r
+  name-by (operator add) y p env e h r = no-way r
+  name-by (operator sub) y p env e h r = no-way r
+  name-by (operator mul) y p env e h r = no-way r
+  name-by (operator div) y p env e h r = no-way r
 
-  pub name-sim : {ρ : Env} {env : ℕ} (p : ℕ) {sp : ℕ} {s : State} {m : Tables} → Named g ρ env m → R g s m →
-      Sim g (IsVal g) sp m (name-rule (meaning (name-in g p)) (look ρ (name-in g p)) p s)
-      (is (nameValue (g.script .text) (m .bindings) (m .cells) p (m .counts .bindings) (m .counts .cells) env) m)
-  unfolding nameValue meaningAt
-  name-sim {env = env} p n r = name-by (meaning (name-in g p)) p env (walk-finds n p _ (le-refl _)) r
+  pub name-sim : {ρ : Env} {env q : ℕ} {x : Name} (p : ℕ) {sp : ℕ} {s : State} {m : Tables} → Used g.script g.codes (scope ρ) q x → Named g ρ env m → R g s m →
+      Sim g (IsVal g) sp m (name-rule (meaning x) (look ρ x) p s)
+      (is (nameValue (m .bindings) (m .cells) (code g q) p (m .counts .cells) env) m)
+  name-sim {ρ = ρ} {env = env} {x = x} p z n r = rw (z .code-is) (name-by (meaning x) _ p env (not-nine (scope ρ) x) (name-finds n (few r) x) r)
 
 -- ---- at the head of an application
-
--- the rules see an operator or none, the machine a name's number
-pub data Head : Option Op → ℕ → Type 0 where
-  no-operator : {o : ℕ} → T (ltb o 3) → Head none o
-  an-operator : (f : Op) → Head (some f) (meaningNo (operator f))
-
-head-meaning : (k : Meaning) → Head (operator-of k) (meaningNo k)
-head-meaning free = no-operator tt
-head-meaning (literal true) = no-operator tt
-head-meaning (literal false) = no-operator tt
-head-meaning (operator f) = an-operator f
 
 pub operator-number : (f : Op) → T (ltb (meaningNo (operator f)) 3) → ⊥
 operator-number not h = h
@@ -180,19 +189,3 @@ operator-number add h = h
 operator-number sub h = h
 operator-number mul h = h
 operator-number div h = h
-
-module _ (g : Stage) where
-  head-kind : (i k : ℕ) {o : Option Op} → kind g.script i ≡ k → Head o (pick (eqb k 19) (λ _. meaningAt (g.script .text) (place g.script i)) λ _. 0) →
-      Head o (operatorAt (run-of g) i)
-  unfolding operatorAt
-  head-kind i k {o} e h = subst (λ (j : ℕ). Head o (pick (eqb j 19) (λ _. meaningAt (g.script .text) (place g.script i)) λ _. 0)) (sym e) h
-
-  pub head-is : {i : ℕ} {e : Expr} → AtE g.script i e → Head (head-operator e) (operatorAt (run-of g) i)
-  unfolding pick meaningAt
-  head-is (at-num k n) = head-kind _ 18 (k .kind-is) (no-operator tt)
-  head-is (at-name {i = i} k) = head-kind _ 19 (k .kind-is) (head-meaning (meaning (name-in g (place g.script i))))
-  head-is (at-if k a b c z) = head-kind _ 20 (k .kind-is) (no-operator tt)
-  head-is (at-and k a b z) = head-kind _ 21 (k .kind-is) (no-operator tt)
-  head-is (at-or k a b z) = head-kind _ 22 (k .kind-is) (no-operator tt)
-  head-is (at-app k f es) = head-kind _ 23 (k .kind-is) (no-operator tt)
-  head-is (at-abs k ps e z) = head-kind _ 24 (k .kind-is) (no-operator tt)

@@ -3,43 +3,55 @@ use mathlib.Core.Path.{_≡_}
 use mathlib.Core.List.{List, [], _∷_, _++_}
 use mathlib.Core.Option.{Option, none, some}
 use Prim.Native.Nat.{ℕ, suc, _+_, _*_, _%_, _≤_, _<_}
-use lib.ListN.{length, drop}
+use lib.ListN.{length, getD, drop}
 use mir.Syntax.{w64}
 use mir.Val.{toZ}
-use Rattle.language.specs.Syntax.{Name, ArgP, Expr, ExprP, Def, Stat, Cmds, Block}
+use Rattle.language.specs.Syntax.{Name, ArgP, Expr, Exprs, ExprP, Def, Stat, Cmds, Block}
 use Rattle.language.specs.Answers.{Stop, stop-number}
 use Rattle.language.specs.Types.{param-names}
 use Rattle.language.specs.Limits.{Limits}
-use Rattle.language.specs.Words.{nameAt}
 use Rattle.language.specs.Rules.{Val, inZ, inF, inFR, inP, inPR, inA, Env, empty, bound, State, stop, no-rule, Outcome, ok, halt, nth, Entered, Level, cmds}
 use Rattle.nodes.specs.declared.Node.{Node}
 use Rattle.nodes.specs.Nodes.{nodeAt}
-use Rattle.nodes.specs.Trees.{Script, place, next, AtParams, AtE, AtA, AtCs, AtD, AtS, AtB}
+use Rattle.nodes.specs.Trees.{Script, next, AtParams, AtE, AtEs, AtA, AtAs, AtCs, AtD, AtS, AtB}
 use Rattle.machine.specs.declared.Row.{Row}
 use Rattle.machine.specs.declared.Ending.{Ending}
 use Rattle.machine.specs.declared.Ending.the-variants.{Value, NoRule}
 use Rattle.machine.specs.declared.Ending.the-variants as E
 use Rattle.machine.specs.Entries.{number-tag, function-tag, recursive-function-tag, procedure-tag, recursive-procedure-tag, address-tag, unset-tag, ring-rows, row, rowAt, binding, bindingAt, nodeOf, envOf}
+use Rattle.machine.specs.Codes.{codeOver, extended, defined, CodedE, CodedEs, CodedA, CodedAs, CodedCs, CodedD, CodedS, CodedB}
 use Rattle.machine.specs.State.{Run, Tables, Ret, is}
 use Rattle.machine.specs.Machine.{Evaluators, cmdIn}
 use Rattle.machine.specs.Leaves.{Opened}
 use Rattle.machine.specs.Shown.{boundsOf}
+use Rattle.machine.proofs.Steps.{tail, more, blocks}
 
 -- a run on a script under limits, with the tables as they were lent
 pub record Stage : Type 0 where
   pub script : Script
+  pub codes : List ℕ
   pub limits : Limits
   pub old : Tables
 
 abbrev pub run-of : Stage → Run
-run-of g = record { script = g.script; bounds = boundsOf g.limits }
+run-of g = record { tree = g.script .tree; codes = g.codes; bounds = boundsOf g.limits }
 
--- a node of the script, and the name that its text has at a place
+-- a node of the script, and its code
 abbrev pub node : Stage → ℕ → Node
 node g i = nodeAt (g.script .tree) i
 
-abbrev pub name-in : Stage → ℕ → Name
-name-in g p = nameAt (g.script .text) p
+abbrev pub code : Stage → ℕ → ℕ
+code g i = getD g.codes i 0
+
+-- the names of an environment
+abbrev pub scope : Env → List Name
+scope empty = []
+scope (bound x u ρ) = x ∷ scope ρ
+
+-- the environment ρ further out
+pub data Outer : Env → Env → Type 0 where
+  outer-self : {ρ : Env} → Outer ρ ρ
+  outer-more : {ρ ρ′ : Env} {y : Name} {u : Val} → Outer ρ′ ρ → Outer ρ′ (bound y u ρ)
 
 -- the lent tables are large enough
 pub record Roomy (g : Stage) : Type 0 where
@@ -73,20 +85,56 @@ abbrev pub Old : List ℕ → ℕ → List ℕ → Type 0
 Old b c b′ = (k : ℕ) → k < c → bindingAt b′ k ≡ bindingAt b k
 
 module _ (g : Stage) where
+  -- the node i is this tree, and the codes from there on are right where the names Γ are in force
+  pub record InE (Γ : List Name) (i : ℕ) (e : Expr) : Type 0 where
+    pub at : AtE g.script i e
+    pub coded : CodedE g.script g.codes Γ i e
+
+  pub record InEs (Γ : List Name) (i : ℕ) (es : Exprs) : Type 0 where
+    pub at : AtEs g.script i es
+    pub coded : CodedEs g.script g.codes Γ i es
+
+  pub record InA (Γ : List Name) (i : ℕ) (a : ExprP) : Type 0 where
+    pub at : AtA g.script i a
+    pub coded : CodedA g.script g.codes Γ i a
+
+  pub record InAs (Γ : List Name) (i : ℕ) (as′ : List ExprP) : Type 0 where
+    pub at : AtAs g.script i as′
+    pub coded : CodedAs g.script g.codes Γ i as′
+
+  pub record InCs (Γ : List Name) (i : ℕ) (cs : Cmds) : Type 0 where
+    pub at : AtCs g.script i cs
+    pub coded : CodedCs g.script g.codes Γ i cs
+
+  pub record InD (Γ : List Name) (i : ℕ) (d : Def) : Type 0 where
+    pub at : AtD g.script i d
+    pub coded : CodedD g.script g.codes Γ i d
+
+  pub record InS (Γ : List Name) (i : ℕ) (c : Stat) : Type 0 where
+    pub at : AtS g.script i c
+    pub coded : CodedS g.script g.codes Γ i c
+
+  pub record InB (Γ : List Name) (i : ℕ) (a : Block) : Type 0 where
+    pub at : AtB g.script i a
+    pub coded : CodedB g.script g.codes Γ i a
+
+  -- a closure's body is coded under its parameters and the names of its environment; of a binding's name only its place in the chain is there.
+  -- A jump leads to an environment further out, over the first of its blocks
   pub data Rep (b : List ℕ) : ℕ → Thing → Type 0 where
     v-num : {c : ℕ} (x : ℕ) → Rep b c (value (inZ (toZ w64 x)) number-tag x)
-    v-fun : {c x i : ℕ} {xs : List ArgP} {e : Expr} {ρ : Env} → AtParams g.script (nodeOf x) xs i → AtE g.script i e → Rep b c (names ρ (envOf x)) →
+    v-fun : {c x i : ℕ} {xs : List ArgP} {e : Expr} {ρ : Env} → AtParams g.script (nodeOf x) xs i → InE (extended (param-names xs) (scope ρ)) i e → Rep b c (names ρ (envOf x)) →
         Rep b c (value (inF e (param-names xs) ρ) function-tag x)
-    v-rec : {c x i : ℕ} {xs : List ArgP} {e : Expr} {ρ : Env} → AtParams g.script (next g.script (next g.script (nodeOf x))) xs i → AtE g.script i e →
-        Rep b c (names ρ (envOf x)) → Rep b c (value (inFR e (name-in g (place g.script (nodeOf x))) (param-names xs) ρ) recursive-function-tag x)
-    v-proc : {c x i : ℕ} {xs : List ArgP} {a : Block} {ρ : Env} → AtParams g.script (nodeOf x) xs i → AtB g.script i a → Rep b c (names ρ (envOf x)) →
+    v-rec : {c x i : ℕ} {f : Name} {xs : List ArgP} {e : Expr} {ρ : Env} → AtParams g.script (next g.script (next g.script (nodeOf x))) xs i →
+        InE (f ∷ extended (param-names xs) (scope ρ)) i e → Rep b c (names ρ (envOf x)) → Rep b c (value (inFR e f (param-names xs) ρ) recursive-function-tag x)
+    v-proc : {c x i : ℕ} {xs : List ArgP} {a : Block} {ρ : Env} → AtParams g.script (nodeOf x) xs i → InB (extended (param-names xs) (scope ρ)) i a → Rep b c (names ρ (envOf x)) →
         Rep b c (value (inP a (param-names xs) ρ) procedure-tag x)
-    v-proc-rec : {c x i : ℕ} {xs : List ArgP} {a : Block} {ρ : Env} → AtParams g.script (next g.script (nodeOf x)) xs i → AtB g.script i a →
-        Rep b c (names ρ (envOf x)) → Rep b c (value (inPR a (name-in g (place g.script (nodeOf x))) (param-names xs) ρ) recursive-procedure-tag x)
+    v-proc-rec : {c x i : ℕ} {f : Name} {xs : List ArgP} {a : Block} {ρ : Env} → AtParams g.script (next g.script (nodeOf x)) xs i →
+        InB (f ∷ extended (param-names xs) (scope ρ)) i a → Rep b c (names ρ (envOf x)) → Rep b c (value (inPR a f (param-names xs) ρ) recursive-procedure-tag x)
     v-adr : {c a : ℕ} → Rep b c (value (inA a) address-tag a)
     e-none : {c : ℕ} → Rep b c (names empty 0)
-    e-bound : {c k p t x l : ℕ} {u : Val} {ρ : Env} → suc k ≤ c → bindingAt b k ≡ binding p t x l → Rep b k (value u t x) → Rep b k (names ρ l) →
-        Rep b c (names (bound (name-in g p) u ρ) (suc k))
+    e-bound : {c k t x l j : ℕ} {y : Name} {u : Val} {ρ ρ′ : Env} → suc k ≤ c → bindingAt b k ≡ binding (suc (codeOver (scope ρ))) t x l j →
+        Rep b k (value u t x) → Rep b k (names ρ l) → Outer ρ′ ρ →
+        blocks (scope ρ′) ≡ tail (more (blocks (scope ρ))) → Rep b k (names ρ′ j) → Rep b c (names (bound y u ρ) (suc k))
 
   abbrev pub ValR : List ℕ → ℕ → Val → (tag word : ℕ) → Type 0
   ValR b c u t x = Rep b c (value u t x)
@@ -156,12 +204,13 @@ module _ (g : Stage) where
     pub it : P a t x m₁
     pub made : n + m .counts .bindings ≤ m₁ .counts .bindings
 
-  -- what answers are: a value, an environment, the environment that was, waiting values (from top on, behind n others), a body and its environment
+  -- what answers are: a value, an environment with the names Γ, the environment that was, waiting values (from top on, behind n others), a body and its environment
   abbrev pub IsVal : Val → (t x : ℕ) → Tables → Type 0
   IsVal u t x m = ValR (m .bindings) (m .counts .bindings) u t x
 
-  abbrev pub IsEnv : Env → (t x : ℕ) → Tables → Type 0
-  IsEnv ρ t x m = Named ρ x m
+  pub record IsEnv (Γ : List Name) (ρ : Env) (t x : ℕ) (m : Tables) : Type 0 where
+    pub named : Named ρ x m
+    pub scope-is : scope ρ ≡ Γ
 
   -- evaluated from m on. The values are in the ring as long as there is room to bind them; bound, they are bindings made
   pub record Waiting (m : Tables) (top n : ℕ) (us : List Val) (t x : ℕ) (m₁ : Tables) : Type 0 where
@@ -174,19 +223,19 @@ module _ (g : Stage) where
     pub it : P us t x m
     pub some : 1 ≤ length us
 
-  pub record IsEntered {B : Type 0} (At : ℕ → B → Type 0) (c : Entered B) (env i : ℕ) (m : Tables) : Type 0 where
+  pub record IsEntered {B : Type 0} (In : List Name → ℕ → B → Type 0) (c : Entered B) (env i : ℕ) (m : Tables) : Type 0 where
     pub in-env : Named (c .env) env m
-    pub body-at : At i (c .body)
+    pub body-in : In (scope (c .env)) i (c .body)
 
   -- parameters from q on and values, one by one: the names grow from ρ to ρ′, up to the node i
   pub data Zip : ℕ → List Val → Env → Env → ℕ → Type 0 where
     z-none : {q : ℕ} {ρ : Env} → Zip q [] ρ ρ q
-    z-more : {q i : ℕ} {u : Val} {us : List Val} {ρ ρ′ : Env} → Zip (next g.script q) us (bound (name-in g (place g.script q)) u ρ) ρ′ i →
-        Zip q (u ∷ us) ρ ρ′ i
+    z-more : {q i : ℕ} {y : Name} {u : Val} {us : List Val} {ρ ρ′ : Env} → Zip (next g.script q) us (bound y u ρ) ρ′ i → Zip q (u ∷ us) ρ ρ′ i
 
-  pub data Fit (q : ℕ) (us : List Val) (ρ : Env) (i n : ℕ) : Option Env → Ending → Type 0 where
-    fit : {ρ′ : Env} {t : ℕ} → Zip q us ρ ρ′ i → n ≡ length us → Fit q us ρ i n (some ρ′) (Value t i)
-    unfit : Fit q us ρ i n none NoRule
+  -- with as many values as parameters; then the names Γ are in force
+  pub data Fit (q : ℕ) (us : List Val) (ρ : Env) (Γ : List Name) (i n : ℕ) : Option Env → Ending → Type 0 where
+    fit : {ρ′ : Env} {t : ℕ} → Zip q us ρ ρ′ i → n ≡ length us → scope ρ′ ≡ Γ → Fit q us ρ Γ i n (some ρ′) (Value t i)
+    unfit : Fit q us ρ Γ i n none NoRule
 
   -- bindings c up to n are made, which changes nothing from the entry r on
   pub record Bound (b : List ℕ) (c n r : ℕ) (ρ′ : Env) (o : Opened) : Type 0 where
@@ -201,11 +250,11 @@ module _ (g : Stage) where
 
   -- the rules and the machine agree
   pub record Adeq (l : Level) (S : Evaluators) : Type 0 where
-    pub onE : {i : ℕ} {e : Expr} {ρ : Env} {env sp : ℕ} {s : State} {m : Tables} → AtE g.script i e → Here ρ env s m →
+    pub onE : {i : ℕ} {e : Expr} {ρ : Env} {env sp : ℕ} {s : State} {m : Tables} → InE (scope ρ) i e → Here ρ env s m →
         Sim (Spent m IsVal) sp m (l .expr e ρ s) (S .expr env (slot sp) i m)
-    pub onA : {i : ℕ} {a : ExprP} {ρ : Env} {env sp : ℕ} {s : State} {m : Tables} → AtA g.script i a → Here ρ env s m →
+    pub onA : {i : ℕ} {a : ExprP} {ρ : Env} {env sp : ℕ} {s : State} {m : Tables} → InA (scope ρ) i a → Here ρ env s m →
         Sim (Spent m IsVal) sp m (l .arg a ρ s) (S .expr env (slot sp) i m)
-    pub onC : {i : ℕ} {cs : Cmds} {ρ : Env} {env sp : ℕ} {s : State} {m : Tables} → AtCs g.script i cs → Here ρ env s m →
+    pub onC : {i : ℕ} {cs : Cmds} {ρ : Env} {env sp : ℕ} {s : State} {m : Tables} → InCs (scope ρ) i cs → Here ρ env s m →
         Sim (λ u t x m₁. Unit {0}) sp m (cmds l cs ρ s) (S .block env (slot sp) i m)
 
 abbrev pub IsDone : ℕ → Unit {0} → (t x : ℕ) → Tables → Type 0
@@ -214,7 +263,7 @@ IsDone env u t x m = x ≡ env
 module _ (g : Stage) where
   -- commands with d levels left
   pub record AdeqC (d : ℕ) (l : Level) (S : Evaluators) : Type 0 where
-    pub onD : {i : ℕ} {c : Def} {ρ : Env} {env sp : ℕ} {s : State} {m : Tables} → AtD g.script i c → Here g ρ env s m →
-        Sim g (Spent g m (IsEnv g)) sp m (l .def c ρ s) (cmdIn (run-of g) (node g i .kind) d S env (slot sp) (node g i) m)
-    pub onS : {i : ℕ} {c : Stat} {ρ : Env} {env sp : ℕ} {s : State} {m : Tables} → AtS g.script i c → Here g ρ env s m →
+    pub onD : {i : ℕ} {c : Def} {ρ : Env} {env sp : ℕ} {s : State} {m : Tables} → InD g (scope ρ) i c → Here g ρ env s m →
+        Sim g (Spent g m (IsEnv g (defined c ∷ scope ρ))) sp m (l .def c ρ s) (cmdIn (run-of g) (node g i .kind) d S env (slot sp) (node g i) m)
+    pub onS : {i : ℕ} {c : Stat} {ρ : Env} {env sp : ℕ} {s : State} {m : Tables} → InS g (scope ρ) i c → Here g ρ env s m →
         Sim g (Spent g m (IsDone env)) sp m (l .stat c ρ s) (cmdIn (run-of g) (node g i .kind) d S env (slot sp) (node g i) m)

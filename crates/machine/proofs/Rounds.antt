@@ -53,7 +53,7 @@ bit-then t x m one zero k = bits-then (eqb t number-tag) (eqb x 0) (eqb x 1) m o
 
 module _ (g : Run) (d : ℕ) (S : Evaluators) (env sp : ℕ) (n : Node) where
   abbrev body : ℕ
-  body = nodeAt g.script.tree (nodeAt g.script.tree (n .child) .next) .child
+  body = nodeAt g.tree (nodeAt g.tree (n .child) .next) .child
 
   -- after a round
   abbrev more : ℕ → ℕ → ℕ → Tables → Ret

@@ -5,7 +5,7 @@ use mathlib.Core.Option.{Option, none, some, Option·none-ne-some}
 use Prim.Native.Nat.{ℕ, _+_, _-_, _*_, _≤_}
 use native.Mathlib.Omega.{arith}
 use lib.IntN.{ℤ}
-use lib.ListN.{length, take, drop, replicate}
+use lib.ListN.{length, getD, take, drop, replicate}
 use lib.Seq.{take-append-seam}
 use Rattle.language.specs.Syntax.{Block}
 use Rattle.language.specs.Answers.{FUEL, DEPTH, CELLS, BINDINGS, OUTPUT, RANGE, ZERO, UNSET, Stop, limit, error, stop-number, Answer, done, stopped}
@@ -23,9 +23,11 @@ use Rattle.machine.specs.declared.Ending.{Ending}
 use Rattle.machine.specs.declared.Ending.the-variants.{Value}
 use Rattle.machine.specs.declared.Ending.the-variants as E
 use Rattle.machine.specs.Entries.{pick, ring-rows}
+use Rattle.machine.specs.Codes.{Coded, codesOf}
 use Rattle.machine.specs.State.{Tables, Ret}
 use Rattle.machine.specs.Machine.{blockAt}
 use Rattle.machine.specs.Shown.{fresh, program, stopBy, answerOf, shown, toldBy}
+use Rattle.machine.proofs.Codes.{codes-right}
 use Rattle.machine.proofs.Relation.{Stage, Kept, R, Sim, goes, stops, no-way, e-none, Here}
 use Rattle.machine.proofs.Agree.{kept-self}
 use Rattle.machine.proofs.Adequate.{adequate}
@@ -114,13 +116,13 @@ agrees (no-way r) = record { reports = same-report _ _ refl r; known = known-non
 -- ---- the theorem
 
 -- of a block at the root, whatever the tables held before
-pub block-runs : (g : Script) (L : Limits) {b : Block} (bindings cells : List ℕ) (output : List ℤ) (waiting : List ℕ) → AtB g 0 b → Admitted L →
+pub block-runs : (g : Script) (codes : List ℕ) (L : Limits) {b : Block} (bindings cells : List ℕ) (output : List ℤ) (waiting : List ℕ) → AtB g 0 b → Coded g codes b → Admitted L →
     2 * L .bindings ≤ length bindings → 2 * L .cells ≤ length cells → L .output ≤ length output → 2 * ring-rows ≤ length waiting →
-    RunsAs L b (fresh (L .fuel) bindings cells output waiting) (program g.tree g.text L (fresh (L .fuel) bindings cells output waiting))
+    RunsAs L b (fresh (L .fuel) bindings cells output waiting) (program g.tree codes L (fresh (L .fuel) bindings cells output waiting))
 unfolding program blockAt
-block-runs g L bindings cells output waiting (at-block k a) adm hb hc ho hw =
+block-runs g codes L bindings cells output waiting (at-block k a) w adm hb hc ho hw =
     let old : Tables = fresh (L .fuel) bindings cells output waiting in
-    let stage : Stage = record { script = g; limits = L; old = old } in
+    let stage : Stage = record { script = g; codes = codes; limits = L; old = old } in
     let begin : R stage start old =
     record {
       units = omega arith;
@@ -145,7 +147,7 @@ block-runs g L bindings cells output waiting (at-block k a) adm hb hc ho hw =
       };
     } in
     let here : Here stage empty 0 start old = record { names′ = e-none; st = begin } in
-    let x = agrees (adequate {g = stage} (L .depth) .onC {sp = 0} a here) in
+    let x = agrees (adequate {g = stage} (L .depth) .onC {sp = 0} (record { at = a; coded = w }) here) in
     record {
       reports = x .reports;
       tells = λ c. same-told c _ _ (x .state);
@@ -156,11 +158,18 @@ block-runs g L bindings cells output waiting (at-block k a) adm hb hc ho hw =
       waiting-kept = x .state .waiting-kept;
     }
 
--- of every text that reads, on the table of its tree
-pub text-runs : (g : Script) (L : Limits) (b : Block) (bindings cells : List ℕ) (output : List ℤ) (waiting : List ℕ) → ReadAs g b → Admitted L →
+-- of every text that reads, on the table of its tree and the right codes
+pub text-runs : (g : Script) (codes : List ℕ) (L : Limits) (b : Block) (bindings cells : List ℕ) (output : List ℤ) (waiting : List ℕ) → ReadAs g b → Coded g codes b → Admitted L →
     2 * L .bindings ≤ length bindings → 2 * L .cells ≤ length cells → L .output ≤ length output → 2 * ring-rows ≤ length waiting →
-    RunsAs L b (fresh (L .fuel) bindings cells output waiting) (program g.tree g.text L (fresh (L .fuel) bindings cells output waiting))
-text-runs g L b bindings cells output waiting h = block-runs g L bindings cells output waiting (root h)
+    RunsAs L b (fresh (L .fuel) bindings cells output waiting) (program g.tree codes L (fresh (L .fuel) bindings cells output waiting))
+text-runs g codes L b bindings cells output waiting h = block-runs g codes L bindings cells output waiting (root h)
+
+-- the same on the codes that a pass down the tree gives
+pub coded-runs : (g : Script) (codes : List ℕ) (L : Limits) (b : Block) (bindings cells : List ℕ) (output : List ℤ) (waiting : List ℕ) → ReadAs g b →
+    ((i : ℕ) → getD codes i 0 ≡ getD (codesOf g) i 0) → Admitted L →
+    2 * L .bindings ≤ length bindings → 2 * L .cells ≤ length cells → L .output ≤ length output → 2 * ring-rows ≤ length waiting →
+    RunsAs L b (fresh (L .fuel) bindings cells output waiting) (program g.tree codes L (fresh (L .fuel) bindings cells output waiting))
+coded-runs g codes L b bindings cells output waiting h c = text-runs g codes L b bindings cells output waiting h (codes-right g codes h c)
 
 -- ---- the corollary: a typed program never comes to a state that no rule fits
 

@@ -42,6 +42,10 @@ done-tag = 7
 abbrev pub again-tag : ℕ
 again-tag = 8
 
+-- the codes below this are the nine names'; this one is the code of a name that is not bound, and the bindings have those above it
+abbrev pub first-free : ℕ
+first-free = 10
+
 -- no table has more rows
 abbrev pub most-rows : ℕ
 most-rows = 4096
@@ -49,6 +53,10 @@ most-rows = 4096
 -- the rows of waiting values are a ring: no run makes more bindings than this, and each value that waits becomes one, or the run ends at its call
 abbrev pub ring-rows : ℕ
 ring-rows = 4096
+
+-- no name takes more steps, whatever the text: with up to 4,096 bindings in force
+abbrev pub most-steps : ℕ
+most-steps = 35
 
 -- the row behind the row k of the ring
 unfoldable pub rowAfter : ℕ → ℕ
@@ -64,22 +72,22 @@ rowAt l k = pick (ltb k most-rows) (λ _. row (getD l (2 * k) 0) (getD l (2 * k 
 unfoldable pub putRow : List ℕ → ℕ → (tag word : ℕ) → List ℕ
 putRow l k t x = pick (ltb k most-rows) (λ _. set (set l (2 * k) t) (2 * k + 1) x) λ _. l
 
-abbrev pub binding : (place tag word link : ℕ) → Binding
-binding p t x l = record { place = p; tag = t; word = x; link = l }
+abbrev pub binding : (code tag word link jump : ℕ) → Binding
+binding c t x l j = record { code = c; tag = t; word = x; link = l; jump = j }
 
--- a binding's first word: tag, place and link, 16 bits each
-abbrev pub headOf : (place tag link : ℕ) → ℕ
-headOf p t l = (t % 65536 * 65536 + p % 65536) * 65536 + l % 65536
+-- a binding's first word: its value's tag, its jump, its code and its link, 16 bits each
+abbrev pub headOf : (code tag link jump : ℕ) → ℕ
+headOf c t l j = ((t % 65536 * 65536 + j % 65536) * 65536 + c % 65536) * 65536 + l % 65536
 
 abbrev pub bindingOf : Row → Binding
-bindingOf r = binding (r .tag / 65536 % 65536) (r .tag / 4294967296) (r .word) (r .tag % 65536)
+bindingOf r = binding (r .tag / 65536 % 65536) (r .tag / 281474976710656) (r .word) (r .tag % 65536) (r .tag / 4294967296 % 65536)
 
 -- the binding k of a table
 unfoldable pub bindingAt : List ℕ → ℕ → Binding
 bindingAt l k = bindingOf (rowAt l k)
 
 unfoldable pub putBinding : List ℕ → ℕ → Binding → List ℕ
-putBinding l k b = putRow l k (headOf (b .place) (b .tag) (b .link)) (b .word)
+putBinding l k b = putRow l k (headOf (b .code) (b .tag) (b .link) (b .jump)) (b .word)
 
 -- a closure's word: a node and the environment of its definition, 16 bits each. The node is its first parameter, or its name where it knows that
 unfoldable pub closureWord : (node env : ℕ) → ℕ

@@ -7,45 +7,53 @@ use lib.IntN.{ℤ, pos, _+ℤ_, _-ℤ_, _*ℤ_}
 use lib.Signed.{ltZ}
 use mir.Syntax.{w64}
 use mir.Val.{toZ, ofZ}
-use Rattle.language.specs.Bytes.{same-bytes}
 use Rattle.language.specs.Answers.{ZERO, error, stop-number}
-use Rattle.language.specs.Names.{meaning}
 use Rattle.language.specs.Numbers.{Computed, amount, fails, ranged, quotient, same-number, bit}
-use Rattle.language.specs.Words.{nameAt}
 use Rattle.nodes.specs.Nodes.{nodeAt}
-pub use Rattle.nodes.specs.Names.{meaningNo}
-use Rattle.nodes.specs.Written.{numberAt}
 use Rattle.machine.specs.declared.Row.{Row}
+use Rattle.machine.specs.declared.Binding.{Binding}
 use Rattle.machine.specs.declared.Ending.{Ending}
 use Rattle.machine.specs.declared.Ending.the-variants.{Value, Stop, NoRule}
-use Rattle.machine.specs.Entries.{pick, number-tag, function-tag, recursive-function-tag, procedure-tag, recursive-procedure-tag, address-tag, unset-tag, done-tag, rowAfter, rowAt, binding, bindingAt, putBinding, nodeOf, envOf}
+use Rattle.machine.specs.Entries.{pick, number-tag, function-tag, recursive-function-tag, procedure-tag, recursive-procedure-tag, address-tag, unset-tag, done-tag, first-free, most-steps, rowAfter, rowAt, binding, bindingAt, putBinding, nodeOf, envOf}
 use Rattle.machine.specs.State.{Run, Tables, Ret, is, andThen, ifValue, bind, newCell}
 
 -- ---- names
 
-module _ (text : List ℕ) where
-  -- which of the nine names stands at a place; 0: none
-  unfoldable pub meaningAt : ℕ → ℕ
-  meaningAt p = meaningNo (meaning (nameAt text p))
+-- the code of the latest binding of env: how many are in force there, counted from `first-free` on
+unfoldable pub codeIn : (bindings : List ℕ) (env : ℕ) → ℕ
+codeIn b env = pick (eqb env 0) (λ _. first-free) λ _. bindingAt b (env - 1) .code
 
-  unfoldable pub sameName : ℕ → ℕ → Bool
-  sameName p q = same-bytes (nameAt text p) (nameAt text q)
+-- the environment to which the latest binding of env jumps
+unfoldable pub jumpIn : (bindings : List ℕ) (env : ℕ) → ℕ
+jumpIn b env = pick (eqb env 0) (λ _. 0) λ _. bindingAt b (env - 1) .jump
 
-  -- the value of the name at p, by the chain of at most n bindings that starts at env
-  unfoldable pub walk : (bindings : List ℕ) (p n env : ℕ) → Ending
-  walk b p zero env = NoRule
-  walk b p (suc n) env =
-      pick (eqb env 0) (λ _. NoRule) λ _.
-      pick (sameName (bindingAt b (env - 1) .place) p) (λ _. Value (bindingAt b (env - 1) .tag) (bindingAt b (env - 1) .word)) λ _.
-      walk b p n (bindingAt b (env - 1) .link)
+-- where a binding behind env jumps to: over the two jumps from env at once where they are equally long, else to env
+unfoldable pub jumpFrom : (bindings : List ℕ) (env : ℕ) → ℕ
+jumpFrom b env =
+    let j = jumpIn b env in
+    let k = jumpIn b j in
+    pick (eqb (codeIn b env + codeIn b k) (codeIn b j + codeIn b j)) (λ _. k) λ _. env
 
-  -- what the name at p is bound to; the nine are bound to nothing
-  unfoldable pub boundTo : (bindings : List ℕ) (p n env : ℕ) → Ending
-  boundTo b p n env = pick (eqb (meaningAt p) 0) (λ _. walk b p n env) λ _. NoRule
+-- a binding of the value t x behind env
+unfoldable pub bindingBehind : (bindings : List ℕ) (tag word env : ℕ) → Binding
+bindingBehind b t x env = binding (suc (codeIn b env)) t x env (jumpFrom b env)
 
-  -- the cell that the name at p is bound to
-  unfoldable pub addressOf : (bindings : List ℕ) (p n env : ℕ) → Ending
-  addressOf b p n env = ifValue (boundTo b p n env) λ t a. pick (eqb t address-tag) (λ _. Value address-tag a) λ _. NoRule
+-- the value of the binding with the code c, in at most n steps from env on: a jump, where that does not lead past it, or one binding further
+unfoldable pub walk : (bindings : List ℕ) (c n env : ℕ) → Ending
+walk b c zero env = NoRule
+walk b c (suc n) env =
+    pick (eqb env 0) (λ _. NoRule) λ _.
+    pick (eqb (bindingAt b (env - 1) .code) c) (λ _. Value (bindingAt b (env - 1) .tag) (bindingAt b (env - 1) .word)) λ _.
+    pick (leb c (codeIn b (bindingAt b (env - 1) .jump))) (λ _. walk b c n (bindingAt b (env - 1) .jump)) λ _.
+    walk b c n (bindingAt b (env - 1) .link)
+
+-- what the name with the code c is bound to; the nine are bound to nothing
+unfoldable pub boundTo : (bindings : List ℕ) (c env : ℕ) → Ending
+boundTo b c env = pick (ltb c first-free) (λ _. NoRule) λ _. walk b c most-steps env
+
+-- the cell that the name with the code c is bound to
+unfoldable pub addressOf : (bindings : List ℕ) (c env : ℕ) → Ending
+addressOf b c env = ifValue (boundTo b c env) λ t a. pick (eqb t address-tag) (λ _. Value address-tag a) λ _. NoRule
 
 -- what a name stands for that is bound to a value: an address is read through, of the first n cells
 unfoldable pub readThrough : (cells : List ℕ) (n p tag word : ℕ) → Ending
@@ -54,17 +62,12 @@ readThrough c n p t x =
     pick (ltb x n) (λ _. pick (eqb (rowAt c x .tag) unset-tag) (λ _. Stop 27 p) λ _. Value (rowAt c x .tag) (rowAt c x .word)) λ _. NoRule)
     λ _. Value t x
 
--- a name by its number among the nine
-unfoldable pub nameBy : (k : ℕ) (text bindings cells : List ℕ) (p n taken env : ℕ) → Ending
-nameBy k text b c p n taken env =
-    pick (eqb k 0) (λ _. ifValue (walk text b p n env) λ t x. readThrough c taken p t x) λ _.
-    pick (eqb k 1) (λ _. Value number-tag 1) λ _.
-    pick (eqb k 2) (λ _. Value number-tag 0) λ _.
-    NoRule
-
--- the value of the name at p, under n bindings and so many cells taken
-unfoldable pub nameValue : (text bindings cells : List ℕ) (p n taken env : ℕ) → Ending
-nameValue text b c p n taken env = nameBy (meaningAt text p) text b c p n taken env
+-- the value of the name at p with the code c, with so many cells taken
+unfoldable pub nameValue : (bindings cells : List ℕ) (c p taken env : ℕ) → Ending
+nameValue b cells c p taken env =
+    pick (ltb c first-free)
+    (λ _. pick (eqb c 1) (λ _. Value number-tag 1) λ _. pick (eqb c 2) (λ _. Value number-tag 0) λ _. NoRule)
+    λ _. ifValue (walk b c most-steps env) λ t x. readThrough cells taken p t x
 
 -- ---- numbers
 
@@ -72,10 +75,6 @@ nameValue text b c p n taken env = nameBy (meaningAt text p) text b c p n taken 
 abbrev pub given : Computed → (p : ℕ) → Ending
 given (amount z) p = Value number-tag (ofZ w64 z)
 given (fails x) p = Stop (stop-number (error x)) p
-
--- the number that stands at p
-unfoldable pub numeralAt : (text : List ℕ) (p : ℕ) → Ending
-numeralAt text p = given (ranged (numberAt text p)) p
 
 -- an operator of two numbers, by its number among the nine
 unfoldable pub computedBy : (operator : ℕ) → ℤ → ℤ → Computed
@@ -124,49 +123,49 @@ module _ (tree : List ℕ) where
   unfoldable pub bindAll : (n q sp : ℕ) (waiting : List ℕ) (k env : ℕ) (bindings : List ℕ) → Opened
   bindAll zero q sp w k env b = record { env = env; bindings = b }
   bindAll (suc n) q sp w k env b =
-      bindAll n (nodeAt tree q .next) (rowAfter sp) w (suc k) (suc k) (putBinding b k (binding (nodeAt tree q .place) (rowAt w sp .tag) (rowAt w sp .word) env))
+      bindAll n (nodeAt tree q .next) (rowAfter sp) w (suc k) (suc k) (putBinding b k (bindingBehind b (rowAt w sp .tag) (rowAt w sp .word) env))
 
 module _ (g : Run) where
   -- a call at p, by n values that wait from sp on, of what has its first parameter at q and the names of env: the environment and the body's node
   unfoldable pub enter : (p n sp q env : ℕ) → Tables → Ret
   enter p n sp q env m =
-      andThen (is (bodyAfter g.script.tree n q) m) λ _ body m.
+      andThen (is (bodyAfter g.tree n q) m) λ _ body m.
       pick (leb (n + m .counts .bindings) (g.bounds .bindings)) (λ _.
-      let o = bindAll g.script.tree n q sp (m .waiting) (m .counts .bindings) env (m .bindings) in is (Value (o .env) body) (bind n (o .bindings) m))
+      let o = bindAll g.tree n q sp (m .waiting) (m .counts .bindings) env (m .bindings) in is (Value (o .env) body) (bind n (o .bindings) m))
       λ _. is (Stop 23 p) m
 
   -- the same of a closure that knows its name: that is bound last, to the closure itself
   unfoldable pub enterAgain : (p n sp q tag word : ℕ) → Tables → Ret
   enterAgain p n sp q t x m =
-      andThen (is (bodyAfter g.script.tree n q) m) λ _ body m.
+      andThen (is (bodyAfter g.tree n q) m) λ _ body m.
       pick (leb (suc n + m .counts .bindings) (g.bounds .bindings)) (λ _.
-      let o = bindAll g.script.tree n q sp (m .waiting) (m .counts .bindings) (envOf x) (m .bindings) in
+      let o = bindAll g.tree n q sp (m .waiting) (m .counts .bindings) (envOf x) (m .bindings) in
       is (Value (suc (n + m .counts .bindings)) body)
-      (bind (suc n) (putBinding (o .bindings) (n + m .counts .bindings) (binding (nodeAt g.script.tree (nodeOf x) .place) t x (o .env))) m))
+      (bind (suc n) (putBinding (o .bindings) (n + m .counts .bindings) (bindingBehind (o .bindings) t x (o .env))) m))
       λ _. is (Stop 23 p) m
 
   -- the value t x is applied: only a function can be. Behind a name that a closure knows stand a type and the parameters
   unfoldable pub openFunction : (p n sp tag word : ℕ) → Tables → Ret
   openFunction p n sp t x m =
       pick (eqb t function-tag) (λ _. enter p n sp (nodeOf x) (envOf x) m) λ _.
-      pick (eqb t recursive-function-tag) (λ _. enterAgain p n sp (nodeAt g.script.tree (nodeAt g.script.tree (nodeOf x) .next) .next) t x m) λ _.
+      pick (eqb t recursive-function-tag) (λ _. enterAgain p n sp (nodeAt g.tree (nodeAt g.tree (nodeOf x) .next) .next) t x m) λ _.
       is NoRule m
 
   -- the value t x is called: only a procedure can be
   unfoldable pub openProcedure : (p n sp tag word : ℕ) → Tables → Ret
   openProcedure p n sp t x m =
       pick (eqb t procedure-tag) (λ _. enter p n sp (nodeOf x) (envOf x) m) λ _.
-      pick (eqb t recursive-procedure-tag) (λ _. enterAgain p n sp (nodeAt g.script.tree (nodeOf x) .next) t x m) λ _.
+      pick (eqb t recursive-procedure-tag) (λ _. enterAgain p n sp (nodeAt g.tree (nodeOf x) .next) t x m) λ _.
       is NoRule m
 
-  -- the definition at p makes one binding, of the name at q: the answer is the environment after it
-  unfoldable pub define : (p q tag word env : ℕ) → Tables → Ret
-  define p q t x env m =
+  -- the definition at p makes one binding: the answer is the environment after it
+  unfoldable pub define : (p tag word env : ℕ) → Tables → Ret
+  define p t x env m =
       pick (leb (suc (m .counts .bindings)) (g.bounds .bindings))
-      (λ _. is (Value done-tag (suc (m .counts .bindings))) (bind 1 (putBinding (m .bindings) (m .counts .bindings) (binding q t x env)) m))
+      (λ _. is (Value done-tag (suc (m .counts .bindings))) (bind 1 (putBinding (m .bindings) (m .counts .bindings) (bindingBehind (m .bindings) t x env)) m))
       λ _. is (Stop 23 p) m
 
-  -- the VAR at p, of the name at q: a cell, then a binding
-  unfoldable pub defineCell : (p q env : ℕ) → Tables → Ret
-  defineCell p q env m =
-      pick (ltb (m .counts .cells) (g.bounds .cells)) (λ _. define p q address-tag (m .counts .cells) env (newCell m)) λ _. is (Stop 22 p) m
+  -- the VAR at p: a cell, then a binding
+  unfoldable pub defineCell : (p env : ℕ) → Tables → Ret
+  defineCell p env m =
+      pick (ltb (m .counts .cells) (g.bounds .cells)) (λ _. define p address-tag (m .counts .cells) env (newCell m)) λ _. is (Stop 22 p) m

@@ -7,8 +7,8 @@ use Rattle.nodes.specs.declared.Node.{Node}
 use Rattle.nodes.specs.Nodes.{nodeAt}
 use Rattle.machine.specs.declared.Ending.the-variants.{Value, Stop, NoRule}
 use Rattle.machine.specs.Entries.{pick, number-tag, function-tag, recursive-function-tag, procedure-tag, recursive-procedure-tag, done-tag, again-tag, rowAfter, row, closureWord}
-use Rattle.machine.specs.State.{Run, Tables, Ret, is, andThen, store, putOut, push, guard}
-use Rattle.machine.specs.Leaves.{meaningAt, boundTo, addressOf, nameValue, numeralAt, negated, combined, openFunction, openProcedure, define, defineCell}
+use Rattle.machine.specs.State.{Run, codeAt, Tables, Ret, is, andThen, store, putOut, push, guard}
+use Rattle.machine.specs.Leaves.{boundTo, addressOf, nameValue, negated, combined, openFunction, openProcedure, define, defineCell}
 
 -- expressions (and addresses) and blocks with some levels left: under an environment, with values waiting below sp, at a node
 pub record Evaluators : Type 0 where
@@ -25,7 +25,7 @@ module _ (g : Run) where
   args zero S env top n i m = is NoRule m
   args (suc k) S env top n i m =
       pick (eqb i 0) (λ _. is (Value done-tag n) m) λ _.
-      andThen (S .expr env top i m) λ t x m₁. args k S env (rowAfter top) (suc n) (nodeAt g.script.tree i .next) (push top t x m₁)
+      andThen (S .expr env top i m) λ t x m₁. args k S env (rowAfter top) (suc n) (nodeAt g.tree i .next) (push top t x m₁)
 
   -- all arguments from the node i on
   unfoldable pub allArgs : Evaluators → (env sp i : ℕ) → Tables → Ret
@@ -36,28 +36,28 @@ module _ (g : Run) where
   unfoldable pub ifE : Evaluators → (env sp : ℕ) → Node → Tables → Ret
   ifE S env sp n m =
       andThen (S .expr env sp (n .child) m) λ t x m₁.
-      let i = nodeAt g.script.tree (n .child) .next in
-      onBit t x m₁ (λ _. S .expr env sp i m₁) λ _. S .expr env sp (nodeAt g.script.tree i .next) m₁
+      let i = nodeAt g.tree (n .child) .next in
+      onBit t x m₁ (λ _. S .expr env sp i m₁) λ _. S .expr env sp (nodeAt g.tree i .next) m₁
 
   unfoldable pub andE : Evaluators → (env sp : ℕ) → Node → Tables → Ret
   andE S env sp n m =
       andThen (S .expr env sp (n .child) m) λ t x m₁.
-      onBit t x m₁ (λ _. S .expr env sp (nodeAt g.script.tree (n .child) .next) m₁) λ _. is (Value number-tag 0) m₁
+      onBit t x m₁ (λ _. S .expr env sp (nodeAt g.tree (n .child) .next) m₁) λ _. is (Value number-tag 0) m₁
 
   unfoldable pub orE : Evaluators → (env sp : ℕ) → Node → Tables → Ret
   orE S env sp n m =
       andThen (S .expr env sp (n .child) m) λ t x m₁.
-      onBit t x m₁ (λ _. is (Value number-tag 1) m₁) λ _. S .expr env sp (nodeAt g.script.tree (n .child) .next) m₁
+      onBit t x m₁ (λ _. is (Value number-tag 1) m₁) λ _. S .expr env sp (nodeAt g.tree (n .child) .next) m₁
 
   -- an operator o applied: its arguments do not wait in a table. What more there are than two is evaluated, and then no rule fits
   unfoldable pub operatorE : (o : ℕ) → Evaluators → (env sp : ℕ) → Node → Tables → Ret
   operatorE o S env sp n m =
-      let i = nodeAt g.script.tree (n .child) .next in
+      let i = nodeAt g.tree (n .child) .next in
       andThen (S .expr env sp i m) λ t x m₁.
-      let j = nodeAt g.script.tree i .next in
+      let j = nodeAt g.tree i .next in
       pick (eqb j 0) (λ _. is (negated o (row t x)) m₁) λ _.
       andThen (S .expr env sp j m₁) λ u y m₂.
-      let k = nodeAt g.script.tree j .next in
+      let k = nodeAt g.tree j .next in
       pick (eqb k 0) (λ _. is (combined o (n .place) (row t x) (row u y)) m₂) λ _.
       andThen (allArgs S env sp k m₂) λ _ _ m₃. is NoRule m₃
 
@@ -65,37 +65,33 @@ module _ (g : Run) where
   unfoldable pub callE : Evaluators → (env sp : ℕ) → Node → Tables → Ret
   callE S env sp n m =
       andThen (S .expr env sp (n .child) m) λ t x m₁.
-      andThen (allArgs S env sp (nodeAt g.script.tree (n .child) .next) m₁) λ _ k m₂.
+      andThen (allArgs S env sp (nodeAt g.tree (n .child) .next) m₁) λ _ k m₂.
       andThen (openFunction g (n .place) k sp t x m₂) λ env₁ i m₃.
       S .expr env₁ sp i m₃
-
-  -- the operator that the node i is; 0: none
-  unfoldable pub operatorAt : ℕ → ℕ
-  operatorAt i = pick (eqb (nodeAt g.script.tree i .kind) 19) (λ _. meaningAt g.script.text (nodeAt g.script.tree i .place)) λ _. 0
 
   -- an application, by what its head is among the nine names
   unfoldable pub applyE : (o : ℕ) → Evaluators → (env sp : ℕ) → Node → Tables → Ret
   applyE o S env sp n m = pick (ltb o 3) (λ _. callE S env sp n m) λ _. operatorE o S env sp n m
 
-  -- by the kind k of the node n
-  unfoldable pub exprBy : (k : ℕ) → Evaluators → (env sp : ℕ) → Node → Tables → Ret
-  exprBy k S env sp n m =
-      pick (eqb k 18) (λ _. is (numeralAt g.script.text (n .place)) m) λ _.
-      pick (eqb k 19) (λ _. is (nameValue g.script.text (m .bindings) (m .cells) (n .place) (m .counts .bindings) (m .counts .cells) env) m) λ _.
+  -- by the kind k and the code c of the node n
+  unfoldable pub exprBy : (k c : ℕ) → Evaluators → (env sp : ℕ) → Node → Tables → Ret
+  exprBy k c S env sp n m =
+      pick (eqb k 18) (λ _. is (Value number-tag c) m) λ _.
+      pick (eqb k 19) (λ _. is (nameValue (m .bindings) (m .cells) c (n .place) (m .counts .cells) env) m) λ _.
       pick (eqb k 20) (λ _. ifE S env sp n m) λ _.
       pick (eqb k 21) (λ _. andE S env sp n m) λ _.
       pick (eqb k 22) (λ _. orE S env sp n m) λ _.
-      pick (eqb k 23) (λ _. applyE (operatorAt (n .child)) S env sp n m) λ _.
+      pick (eqb k 23) (λ _. applyE c S env sp n m) λ _.
       pick (eqb k 24) (λ _. is (Value function-tag (closureWord (n .child) env)) m) λ _.
-      pick (eqb k 25) (λ _. is (addressOf g.script.text (m .bindings) (nodeAt g.script.tree (n .child) .place) (m .counts .bindings) env) m) λ _.
+      pick (eqb k 25) (λ _. is (addressOf (m .bindings) (codeAt g (n .child)) env) m) λ _.
       is NoRule m
 
   -- ---- commands: the answer is the environment after them
 
   unfoldable pub constC : Evaluators → (env sp : ℕ) → Node → Tables → Ret
   constC S env sp n m =
-      andThen (S .expr env sp (nodeAt g.script.tree (nodeAt g.script.tree (n .child) .next) .next) m) λ t x m₁.
-      define g (n .place) (nodeAt g.script.tree (n .child) .place) t x env m₁
+      andThen (S .expr env sp (nodeAt g.tree (nodeAt g.tree (n .child) .next) .next) m) λ t x m₁.
+      define g (n .place) t x env m₁
 
   unfoldable pub echoC : Evaluators → (env sp : ℕ) → Node → Tables → Ret
   echoC S env sp n m =
@@ -106,25 +102,25 @@ module _ (g : Run) where
 
   unfoldable pub setC : Evaluators → (env sp : ℕ) → Node → Tables → Ret
   setC S env sp n m =
-      andThen (is (addressOf g.script.text (m .bindings) (nodeAt g.script.tree (n .child) .place) (m .counts .bindings) env) m) λ _ a m.
-      andThen (S .expr env sp (nodeAt g.script.tree (n .child) .next) m) λ t x m₁.
+      andThen (is (addressOf (m .bindings) (codeAt g (n .child)) env) m) λ _ a m.
+      andThen (S .expr env sp (nodeAt g.tree (n .child) .next) m) λ t x m₁.
       pick (ltb a (m₁ .counts .cells)) (λ _. is (Value done-tag env) (store a t x m₁)) λ _. is NoRule m₁
 
   -- a block within a command leaves the environment as it was
   unfoldable pub blockC : Evaluators → (env within sp i : ℕ) → Tables → Ret
-  blockC S env ρ sp i m = andThen (S .block ρ sp (nodeAt g.script.tree i .child) m) λ _ _ m₁. is (Value done-tag env) m₁
+  blockC S env ρ sp i m = andThen (S .block ρ sp (nodeAt g.tree i .child) m) λ _ _ m₁. is (Value done-tag env) m₁
 
   unfoldable pub ifC : Evaluators → (env sp : ℕ) → Node → Tables → Ret
   ifC S env sp n m =
       andThen (S .expr env sp (n .child) m) λ t x m₁.
-      let i = nodeAt g.script.tree (n .child) .next in
-      onBit t x m₁ (λ _. blockC S env env sp i m₁) λ _. blockC S env env sp (nodeAt g.script.tree i .next) m₁
+      let i = nodeAt g.tree (n .child) .next in
+      onBit t x m₁ (λ _. blockC S env env sp i m₁) λ _. blockC S env env sp (nodeAt g.tree i .next) m₁
 
   -- a procedure called: name, arguments, bindings, block
   unfoldable pub callC : Evaluators → (env sp : ℕ) → Node → Tables → Ret
   callC S env sp n m =
-      andThen (is (boundTo g.script.text (m .bindings) (nodeAt g.script.tree (n .child) .place) (m .counts .bindings) env) m) λ t x m.
-      andThen (allArgs S env sp (nodeAt g.script.tree (n .child) .next) m) λ _ k m₁.
+      andThen (is (boundTo (m .bindings) (codeAt g (n .child)) env) m) λ t x m.
+      andThen (allArgs S env sp (nodeAt g.tree (n .child) .next) m) λ _ k m₁.
       andThen (openProcedure g (n .place) k sp t x m₁) λ env₁ i m₂.
       blockC S env env₁ sp i m₂
 
@@ -134,7 +130,7 @@ module _ (g : Run) where
       guard d (n .place) m λ m₀.
       andThen (S .expr env sp (n .child) m₀) λ t x m₁.
       onBit t x m₁
-      (λ _. andThen (S .block env sp (nodeAt g.script.tree (nodeAt g.script.tree (n .child) .next) .child) m₁) λ _ _ m₂. is (Value again-tag env) m₂)
+      (λ _. andThen (S .block env sp (nodeAt g.tree (nodeAt g.tree (n .child) .next) .child) m₁) λ _ _ m₂. is (Value again-tag env) m₂)
       λ _. is (Value done-tag env) m₁
 
   unfoldable pub rounds : ℕ → ℕ → Evaluators → (env sp : ℕ) → Node → Tables → Ret
@@ -144,13 +140,13 @@ module _ (g : Run) where
   -- by the kind k of the node n
   unfoldable pub cmdBy : (k : ℕ) → Evaluators → (env sp : ℕ) → Node → Tables → Ret
   cmdBy k S env sp n m =
-      let x = nodeAt g.script.tree (n .child) in
+      let x = nodeAt g.tree (n .child) in
       pick (eqb k 2) (λ _. constC S env sp n m) λ _.
-      pick (eqb k 3) (λ _. define g (n .place) (x .place) function-tag (closureWord (nodeAt g.script.tree (x .next) .next) env) env m) λ _.
-      pick (eqb k 4) (λ _. define g (n .place) (x .place) recursive-function-tag (closureWord (n .child) env) env m) λ _.
-      pick (eqb k 5) (λ _. defineCell g (n .place) (x .place) env m) λ _.
-      pick (eqb k 6) (λ _. define g (n .place) (x .place) procedure-tag (closureWord (x .next) env) env m) λ _.
-      pick (eqb k 7) (λ _. define g (n .place) (x .place) recursive-procedure-tag (closureWord (n .child) env) env m) λ _.
+      pick (eqb k 3) (λ _. define g (n .place) function-tag (closureWord (nodeAt g.tree (x .next) .next) env) env m) λ _.
+      pick (eqb k 4) (λ _. define g (n .place) recursive-function-tag (closureWord (n .child) env) env m) λ _.
+      pick (eqb k 5) (λ _. defineCell g (n .place) env m) λ _.
+      pick (eqb k 6) (λ _. define g (n .place) procedure-tag (closureWord (x .next) env) env m) λ _.
+      pick (eqb k 7) (λ _. define g (n .place) recursive-procedure-tag (closureWord (n .child) env) env m) λ _.
       pick (eqb k 8) (λ _. echoC S env sp n m) λ _.
       pick (eqb k 9) (λ _. setC S env sp n m) λ _.
       pick (eqb k 10) (λ _. ifC S env sp n m) λ _.
@@ -166,7 +162,7 @@ module _ (g : Run) where
   cmds zero d S env sp i m = is NoRule m
   cmds (suc k) d S env sp i m =
       pick (eqb i 0) (λ _. is (Value done-tag env) m) λ _.
-      andThen (cmdIn (nodeAt g.script.tree i .kind) d S env sp (nodeAt g.script.tree i) m) λ _ env₁ m₁. cmds k d S env₁ sp (nodeAt g.script.tree i .next) m₁
+      andThen (cmdIn (nodeAt g.tree i .kind) d S env sp (nodeAt g.tree i) m) λ _ env₁ m₁. cmds k d S env₁ sp (nodeAt g.tree i .next) m₁
 
   -- ---- levels
 
@@ -174,7 +170,7 @@ module _ (g : Run) where
   unfoldable pub step : ℕ → Evaluators → Evaluators
   step d S =
       record {
-        expr = λ env sp i m. guard d (nodeAt g.script.tree i .place) m λ m₁. exprBy (nodeAt g.script.tree i .kind) S env sp (nodeAt g.script.tree i) m₁;
+        expr = λ env sp i m. guard d (nodeAt g.tree i .place) m λ m₁. exprBy (nodeAt g.tree i .kind) (codeAt g i) S env sp (nodeAt g.tree i) m₁;
         block = λ env sp i m. cmds (suc (m .counts .units)) d S env sp i m;
       }
 

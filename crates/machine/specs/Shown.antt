@@ -26,8 +26,8 @@ abbrev pub fresh : (fuel : ℕ) → (bindings cells : List ℕ) → (output : Li
 fresh f b c o w = tables (record { units = f; bindings = 0; cells = 0; numbers = 0 }) b c o w
 
 -- the whole program: the commands of the root's block
-unfoldable pub program : (tree text : List ℕ) → Limits → Tables → Ret
-program t v L m = blockAt (running t v (boundsOf L)) (L .depth) 0 0 (nodeAt t 0 .child) m
+unfoldable pub program : (tree codes : List ℕ) → Limits → Tables → Ret
+program t c L m = blockAt (running t c (boundsOf L)) (L .depth) 0 0 (nodeAt t 0 .child) m
 
 -- a stop by its number
 abbrev pub stopBy : ℕ → Stop

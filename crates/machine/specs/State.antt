@@ -3,8 +3,7 @@ use Prim.Native.Nat.{ℕ, suc, _+_, _-_}
 use mathlib.Core.List.{List}
 use lib.Dec.{ltb}
 use lib.IntN.{ℤ}
-use lib.ListN.{set}
-use Rattle.nodes.specs.Trees.{Script}
+use lib.ListN.{getD, set}
 use Rattle.machine.specs.declared.Counts.{Counts}
 use Rattle.machine.specs.declared.Bounds.{Bounds}
 use Rattle.machine.specs.declared.Evaluated.{Evaluated}
@@ -12,13 +11,18 @@ use Rattle.machine.specs.declared.Ending.{Ending}
 use Rattle.machine.specs.declared.Ending.the-variants.{Value, Stop, NoRule}
 use Rattle.machine.specs.Entries.{pick, unset-tag, putRow}
 
--- what a run does not change: the tree words, the text that their places point into, and how many bindings, cells and numbers there may be
+-- what a run does not change: the tree words, the nodes' codes, and how many bindings, cells and numbers there may be
 pub record Run : Type 0 where
-  pub script : Script
+  pub tree : List ℕ
+  pub codes : List ℕ
   pub bounds : Bounds
 
-abbrev pub running : (tree text : List ℕ) → Bounds → Run
-running t v b = record { script = record { tree = t; text = v }; bounds = b }
+abbrev pub running : (tree codes : List ℕ) → Bounds → Run
+running t c b = record { tree = t; codes = c; bounds = b }
+
+-- the code of the node i
+abbrev pub codeAt : Run → ℕ → ℕ
+codeAt g i = getD g.codes i 0
 
 -- the counts and the lent tables
 pub record Tables : Type 0 where

@@ -11,7 +11,7 @@ use Rattle.machine.specs.declared.Bounds.{Bounds}
 use Rattle.machine.specs.declared.Ending.{Ending}
 use Rattle.machine.specs.declared.Ending.the-variants.{Value}
 use Rattle.machine.specs.Entries.{pick}
-use Rattle.machine.specs.State.{Run, running, Tables, Ret, is, onValue, andThen}
+use Rattle.machine.specs.State.{Run, running, codeAt, Tables, Ret, is, onValue, andThen}
 use Rattle.machine.specs.Leaves.{addressOf, boundTo, define}
 use Rattle.machine.specs.Machine.{Evaluators, onBit, constC, echoC, setC, blockC, ifC, callC, round, rounds, cmdBy, cmds, below, exprAt, blockAt, level, cmdAt}
 use Rattle.machine.specs.Machine.{whileAt, roundAt, constAt, echoAt, setAt, ifStatAt, callStatAt}
@@ -77,41 +77,40 @@ module _ (g : Run) (d env sp : ℕ) (m : Tables) (n : Node) where
 
 module _ (g : Run) (d env sp : ℕ) (m : Tables) (n : Node) where
   -- CONST
-  module _ (x : Node) (x-is : x ≡ nodeAt g.script.tree (n .child)) where
-    module _ (i : ℕ) (i-is : i ≡ nodeAt g.script.tree (x .next) .next) (r : Ret) (r-is : r ≡ exprAt g d env sp i m) where
+  module _ (x : Node) (x-is : x ≡ nodeAt g.tree (n .child)) where
+    module _ (i : ℕ) (i-is : i ≡ nodeAt g.tree (x .next) .next) (r : Ret) (r-is : r ≡ exprAt g d env sp i m) where
       pub const-passes : NotValue (r .ending) → r ≡ constAt g d env sp n m
       unfolding constC
       const-passes h = rw (← x-is, ← i-is, ← r-is) (passes r h _)
 
-      pub const-binds : (t v : ℕ) → r .ending ≡ Value t v → (q : Ret) → q ≡ define g (n .place) (x .place) t v env (r .after) → q ≡ constAt g d env sp n m
+      pub const-binds : (t v : ℕ) → r .ending ≡ Value t v → (q : Ret) → q ≡ define g (n .place) t v env (r .after) → q ≡ constAt g d env sp n m
       unfolding constC
       const-binds t v found q q-is = q-is ∙ sym (rw (← x-is, ← i-is, ← r-is, goes r t v found _))
 
     -- SET
-    module _ (e : Ending) (e-is : e ≡ addressOf g.script.text (m .bindings) (x .place) (m .counts .bindings) env) where
+    module _ (c : ℕ) (c-is : c ≡ codeAt g (n .child)) (e : Ending) (e-is : e ≡ addressOf (m .bindings) c env) where
       pub set-none : NotValue e → is e m ≡ setAt g d env sp n m
       unfolding setC
-      set-none h = rw (← x-is, ← e-is) (passes (is e m) h _)
+      set-none h = rw (← c-is, ← e-is) (passes (is e m) h _)
 
       module _ (k a : ℕ) (target : e ≡ Value k a) (r : Ret) (r-is : r ≡ exprAt g d env sp (x .next) m) where
         pub set-passes : NotValue (r .ending) → r ≡ setAt g d env sp n m
         unfolding setC
-        set-passes h = rw (← x-is, ← e-is, goes (is e m) k a target _, ← r-is) (passes r h _)
+        set-passes h = rw (← x-is, ← c-is, ← e-is, goes (is e m) k a target _, ← r-is) (passes r h _)
 
         pub set-stores : (t v : ℕ) → r .ending ≡ Value t v → (q : Ret) → q ≡ stored a t v env (r .after) → q ≡ setAt g d env sp n m
         unfolding setC stored
-        set-stores t v found q q-is = q-is ∙ sym (rw (← x-is, ← e-is, goes (is e m) k a target _, ← r-is, goes r t v found _))
+        set-stores t v found q q-is = q-is ∙ sym (rw (← x-is, ← c-is, ← e-is, goes (is e m) k a target _, ← r-is, goes r t v found _))
 
   -- CALL
-  module _ (p : ℕ) (p-is : p ≡ nodeAt g.script.tree (n .child) .place) (e : Ending)
-      (e-is : e ≡ boundTo g.script.text (m .bindings) p (m .counts .bindings) env) where
+  module _ (c : ℕ) (c-is : c ≡ codeAt g (n .child)) (e : Ending) (e-is : e ≡ boundTo (m .bindings) c env) where
     pub call-none : NotValue e → is e m ≡ callStatAt g d env sp n m
     unfolding callC
-    call-none h = rw (← p-is, ← e-is) (passes (is e m) h _)
+    call-none h = rw (← c-is, ← e-is) (passes (is e m) h _)
 
     pub call-applies : (t x : ℕ) → e ≡ Value t x → (q : Ret) → q ≡ applyAt g 12 d env sp t x n m → q ≡ callStatAt g d env sp n m
     unfolding callC applyV opens innerC blockC pick
-    call-applies t x target q q-is = q-is ∙ sym (rw (← p-is, ← e-is, goes (is e m) t x target _))
+    call-applies t x target q q-is = q-is ∙ sym (rw (← c-is, ← e-is, goes (is e m) t x target _))
 
   -- ECHO and IF
   module _ (r : Ret) (r-is : r ≡ exprAt g d env sp (n .child) m) where
@@ -128,12 +127,12 @@ module _ (g : Run) (d env sp : ℕ) (m : Tables) (n : Node) where
       unfolding echoC echoed
       echo-goes q q-is = q-is ∙ sym (rw (← r-is, goes r t x found _))
 
-      module _ (first : ℕ) (first-is : first ≡ nodeAt g.script.tree (n .child) .next) (e : Ending) (e-is : e ≡ branchOf g.script.tree first t x) where
+      module _ (first : ℕ) (first-is : first ≡ nodeAt g.tree (n .child) .next) (e : Ending) (e-is : e ≡ branchOf g.tree first t x) where
         if-stat-chooses : ifStatAt g d env sp n m ≡ onValue e (r .after) λ _ j _. innerAt g 7 d env sp env j (r .after)
         unfolding ifC blockC innerC
         if-stat-chooses =
             rw (← r-is, goes r t x found _, ← first-is, e-is)
-            (on-branch g.script.tree first t x (r .after) λ j. innerAt g 7 d env sp env j (r .after))
+            (on-branch g.tree first t x (r .after) λ j. innerAt g 7 d env sp env j (r .after))
 
         pub if-stat-goes : (k j : ℕ) → e ≡ Value k j → (q : Ret) → q ≡ innerAt g 7 d env sp env j (r .after) → q ≡ ifStatAt g d env sp n m
         if-stat-goes k j h q q-is = q-is ∙ sym (if-stat-chooses ∙ rw h)
@@ -154,7 +153,7 @@ module _ (g : Run) (d env sp : ℕ) (m : Tables) (n : Node) where
           andThen r λ t x m₁.
           onBit t x m₁
           (λ _.
-          andThen (blockAt g y env sp (nodeAt g.script.tree (nodeAt g.script.tree (n .child) .next) .child) m₁) λ _ _ m₂. is (Value 8 env) m₂)
+          andThen (blockAt g y env sp (nodeAt g.tree (nodeAt g.tree (n .child) .next) .child) m₁) λ _ _ m₂. is (Value 8 env) m₂)
           λ _. is (Value 7 env) m₁
 
       round-turns : roundAt g d env sp n m ≡ turn r
@@ -168,7 +167,7 @@ module _ (g : Run) (d env sp : ℕ) (m : Tables) (n : Node) where
       round-passes h = passes r h _ ∙ sym round-turns
 
       module _ (t x : ℕ) (found : r .ending ≡ Value t x) (c : Bool) (c-is : c ≡ isBit t x 1) where
-        pub round-goes : c ≡ true → (i : ℕ) → i ≡ nodeAt g.script.tree (n .child) .next → (q : Ret) →
+        pub round-goes : c ≡ true → (i : ℕ) → i ≡ nodeAt g.tree (n .child) .next → (q : Ret) →
             q ≡ innerAt g 8 y env sp env i (r .after) → q ≡ roundAt g d env sp n m
         unfolding turn innerC
         round-goes h i i-is q q-is = q-is ∙ sym (round-turns ∙ rw (goes r t x found _, ← i-is) (on-one t x (r .after) _ _ (sym c-is ∙ h)))
@@ -179,7 +178,7 @@ module _ (g : Run) (d env sp : ℕ) (m : Tables) (n : Node) where
 
 -- a block within
 module _ (g : Run) (d env sp : ℕ) (m : Tables) (tag ρ i first : ℕ)
-    (first-is : first ≡ nodeAt g.script.tree i .child)
+    (first-is : first ≡ nodeAt g.tree i .child)
     (r : Ret)
     (r-is : r ≡ blockAt g d ρ sp first m) where
   pub inner-passes : NotValue (r .ending) → r ≡ innerAt g tag d env sp ρ i m
@@ -203,7 +202,7 @@ module _ (g : Run) (d env sp : ℕ) (k u i : ℕ) (m : Tables) (more : u < k) wh
   unfolding cmds pick
   block-ends h = sym (rw (cmds-are, eq-eqb i 0 h))
 
-  module _ (some : i ≡ 0 → ⊥) (n : Node) (n-is : n ≡ nodeAt g.script.tree i) (r : Ret) (r-is : r ≡ cmdAt g d env sp n m) where
+  module _ (some : i ≡ 0 → ⊥) (n : Node) (n-is : n ≡ nodeAt g.tree i) (r : Ret) (r-is : r ≡ cmdAt g d env sp n m) where
     pub block-passes : NotValue (r .ending) → r ≡ cmds g k d (below g d) env sp i m
     unfolding cmds cmdAt pick
     block-passes h = rw (cmds-are, ne-eqb i 0 some, ← n-is, ← r-is) (passes r h _)
@@ -237,7 +236,7 @@ module _ (g : Run) (d env sp : ℕ) (n : Node) (k u : ℕ) (m : Tables) (more : 
 
 -- ---- the whole program
 
-pub program-runs : (tree text : List ℕ) (b : Bounds) (f d : ℕ) (m : Tables) (first : ℕ) → first ≡ nodeAt tree 0 .child → (q : Ret) →
-    q ≡ blockAt (running tree text b) d 0 0 first m → q ≡ program tree text (limitsOf f d b) m
+pub program-runs : (tree codes : List ℕ) (b : Bounds) (f d : ℕ) (m : Tables) (first : ℕ) → first ≡ nodeAt tree 0 .child → (q : Ret) →
+    q ≡ blockAt (running tree codes b) d 0 0 first m → q ≡ program tree codes (limitsOf f d b) m
 unfolding program
-program-runs tree text b f d m first first-is q q-is = q-is ∙ rw first-is
+program-runs tree codes b f d m first first-is q q-is = q-is ∙ rw first-is

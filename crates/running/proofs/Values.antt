@@ -12,9 +12,9 @@ use Rattle.nodes.specs.Nodes.{nodeAt}
 use Rattle.machine.specs.declared.Ending.{Ending}
 use Rattle.machine.specs.declared.Ending.the-variants.{Value, NoRule}
 use Rattle.machine.specs.Entries.{pick, rowAfter, row, putRow}
-use Rattle.machine.specs.State.{Run, Tables, tables, Ret, is, onValue, andThen}
+use Rattle.machine.specs.State.{Run, codeAt, Tables, tables, Ret, is, onValue, andThen}
 use Rattle.machine.specs.Leaves.{negated, combined}
-use Rattle.machine.specs.Machine.{Evaluators, onBit, args, allArgs, ifE, andE, orE, operatorE, callE, operatorAt, applyE, exprBy, below, exprAt, level}
+use Rattle.machine.specs.Machine.{Evaluators, onBit, args, allArgs, ifE, andE, orE, operatorE, callE, applyE, exprBy, below, exprAt, level}
 use Rattle.machine.specs.Machine.{ifAt, operatorIn, callAt, argsAt}
 use Rattle.machine.proofs.Ending.{the-type}
 use Rattle.machine.proofs.Members.{expr-is, args-go}
@@ -31,7 +31,7 @@ module _ (g : Run) (S : Evaluators) (env sp : ℕ) (n : Node) (m : Tables) where
   parts-and = follow _ _ _ λ t x m₁. by t x m₁ (isBit t x 1) refl
     where
       second : Tables → Unit {0} → Ret
-      second m₁ = λ _. S .expr env sp (nodeAt g.script.tree (n .child) .next) m₁
+      second m₁ = λ _. S .expr env sp (nodeAt g.tree (n .child) .next) m₁
 
       by : (t x : ℕ) (m₁ : Tables) (b : Bool) → isBit t x 1 ≡ b →
           pick b (second m₁) (λ _. is (bitAnswer t x) m₁) ≡ onBit t x m₁ (second m₁) (λ _. is (Value 0 0) m₁)
@@ -43,7 +43,7 @@ module _ (g : Run) (S : Evaluators) (env sp : ℕ) (n : Node) (m : Tables) where
   parts-or = follow _ _ _ λ t x m₁. by t x m₁ (isBit t x 0) refl
     where
       second : Tables → Unit {0} → Ret
-      second m₁ = λ _. S .expr env sp (nodeAt g.script.tree (n .child) .next) m₁
+      second m₁ = λ _. S .expr env sp (nodeAt g.tree (n .child) .next) m₁
 
       by : (t x : ℕ) (m₁ : Tables) (b : Bool) → isBit t x 0 ≡ b →
           pick b (second m₁) (λ _. is (bitAnswer t x) m₁) ≡ onBit t x m₁ (λ _. is (Value 0 1) m₁) (second m₁)
@@ -64,19 +64,19 @@ by-tests m false false false false a b c d = refl
 -- ---- an expression is entered
 
 module _ (g : Run) (d env sp : ℕ) (m : Tables) (i : ℕ) (n : Node)
-    (n-is : n ≡ nodeAt g.script.tree i)
+    (n-is : n ≡ nodeAt g.tree i)
     (r : Ret)
     (r-is : r ≡ guarded d (n .place) m) where
   pub expr-stops : NotValue (r .ending) → r ≡ exprAt g d env sp i m
   expr-stops h = guard-stops d (n .place) m r r-is h _ ∙ sym (expr-is g d env sp i m n n-is)
 
   module _ (t x : ℕ) (found : r .ending ≡ Value t x) where
-    enters : (k : ℕ) → n .kind ≡ k → exprBy g k (level g x) env sp n (r .after) ≡ exprAt g d env sp i m
+    enters : (k : ℕ) → n .kind ≡ k → exprBy g k (codeAt g i) (level g x) env sp n (r .after) ≡ exprAt g d env sp i m
     enters k h =
         sym (
         expr-is g d env sp i m n n-is ∙ guard-goes d (n .place) m r r-is t x found _ ∙
-        ap (λ (a : ℕ). exprBy g a (below g d) env sp n (r .after)) h ∙
-        ap (λ (S : Evaluators). exprBy g k S env sp n (r .after)) (guard-level d (n .place) m r r-is t x found g)
+        ap (λ (a : ℕ). exprBy g a (codeAt g i) (below g d) env sp n (r .after)) h ∙
+        ap (λ (S : Evaluators). exprBy g k (codeAt g i) S env sp n (r .after)) (guard-level d (n .place) m r r-is t x found g)
         )
 
     pub expr-if : n .kind ≡ 20 → (q : Ret) → q ≡ ifAt g x env sp n (r .after) → q ≡ exprAt g d env sp i m
@@ -91,7 +91,7 @@ module _ (g : Run) (d env sp : ℕ) (m : Tables) (i : ℕ) (n : Node)
     unfolding exprBy pick
     expr-or h q q-is = q-is ∙ parts-or g (level g x) env sp n (r .after) ∙ enters 22 h
 
-    module _ (h : n .kind ≡ 23) (o : ℕ) (o-is : o ≡ operatorAt g (n .child)) where
+    module _ (h : n .kind ≡ 23) (o : ℕ) (o-is : o ≡ codeAt g i) where
       pub expr-call : o < 3 → (q : Ret) → q ≡ callAt g x env sp n (r .after) → q ≡ exprAt g d env sp i m
       unfolding exprBy applyE pick
       expr-call l q q-is = q-is ∙ sym (rw (← o-is, lt-ltb o 3 l)) ∙ enters 23 h
@@ -100,14 +100,16 @@ module _ (g : Run) (d env sp : ℕ) (m : Tables) (i : ℕ) (n : Node)
       unfolding exprBy applyE pick
       expr-operator l q q-is = q-is ∙ sym (rw (← o-is, le-ltb o 3 l)) ∙ enters 23 h
 
-    pub expr-plain : (n .kind ≡ 20 → ⊥) → (n .kind ≡ 21 → ⊥) → (n .kind ≡ 22 → ⊥) → (n .kind ≡ 23 → ⊥) → (e : Ending) →
-        e ≡ plainValue g.script.tree g.script.text (r .after .bindings) (r .after .cells) (r .after .counts) env n → is e (r .after) ≡ exprAt g d env sp i m
+    pub expr-plain : (n .kind ≡ 20 → ⊥) → (n .kind ≡ 21 → ⊥) → (n .kind ≡ 22 → ⊥) → (n .kind ≡ 23 → ⊥) → (c : ℕ) → c ≡ codeAt g i → (e : Ending) →
+        e ≡ plainValue g.codes (r .after .bindings) (r .after .cells) (r .after .counts) env c n → is e (r .after) ≡ exprAt g d env sp i m
     unfolding plainValue plainBy exprBy pick
-    expr-plain h₁ h₂ h₃ h₄ e e-is = ap (λ (a : Ending). is a (r .after)) e-is ∙ plain (n .kind) h₁ h₂ h₃ h₄ ∙ enters (n .kind) refl
+    expr-plain h₁ h₂ h₃ h₄ c c-is e e-is =
+        ap (λ (a : Ending). is a (r .after)) e-is ∙ plain (n .kind) h₁ h₂ h₃ h₄ ∙
+        ap (λ (a : ℕ). exprBy g (n .kind) a (level g x) env sp n (r .after)) c-is ∙ enters (n .kind) refl
       where
         plain : (k : ℕ) → (k ≡ 20 → ⊥) → (k ≡ 21 → ⊥) → (k ≡ 22 → ⊥) → (k ≡ 23 → ⊥) →
-            is (plainBy k g.script.tree g.script.text (r .after .bindings) (r .after .cells) (r .after .counts) env n) (r .after) ≡
-            exprBy g k (level g x) env sp n (r .after)
+            is (plainBy k g.codes (r .after .bindings) (r .after .cells) (r .after .counts) env c n) (r .after) ≡
+            exprBy g k c (level g x) env sp n (r .after)
         plain k h₁ h₂ h₃ h₄ =
             by-tests (r .after) (eqb k 18) (eqb k 19) (eqb k 24) (eqb k 25) _ _ _ _ ∙
             sym (simp (ne-eqb k 20 h₁, ne-eqb k 21 h₂, ne-eqb k 22 h₃, ne-eqb k 23 h₄))
@@ -131,13 +133,13 @@ module _ (g : Run) (d env sp : ℕ) (m : Tables) (n : Node) where
       call-passes = rw (← r-is) (passes r not _)
 
     module _ (t x : ℕ) (found : r .ending ≡ Value t x) where
-      module _ (first : ℕ) (first-is : first ≡ nodeAt g.script.tree (n .child) .next) where
-        module _ (e : Ending) (e-is : e ≡ branchOf g.script.tree first t x) where
+      module _ (first : ℕ) (first-is : first ≡ nodeAt g.tree (n .child) .next) where
+        module _ (e : Ending) (e-is : e ≡ branchOf g.tree first t x) where
           if-chooses : ifAt g d env sp n m ≡ onValue e (r .after) λ _ j _. exprAt g d env sp j (r .after)
           unfolding ifE
           if-chooses =
               rw (← r-is, goes r t x found _, ← first-is, e-is)
-              (on-branch g.script.tree first t x (r .after) λ j. exprAt g d env sp j (r .after))
+              (on-branch g.tree first t x (r .after) λ j. exprAt g d env sp j (r .after))
 
           pub if-goes : (k j : ℕ) → e ≡ Value k j → (q : Ret) → q ≡ exprAt g d env sp j (r .after) → q ≡ ifAt g d env sp n m
           if-goes k j h q q-is = q-is ∙ sym (if-chooses ∙ rw h)
@@ -158,12 +160,12 @@ module _ (g : Run) (d env sp : ℕ) (m : Tables) (n : Node) where
       call-goes q q-is = q-is ∙ sym (rw (← r-is, goes r t x found _))
 
   -- an operator's first argument is evaluated
-  module _ (o first : ℕ) (first-is : first ≡ nodeAt g.script.tree (n .child) .next) (r : Ret) (r-is : r ≡ exprAt g d env sp first m) where
+  module _ (o first : ℕ) (first-is : first ≡ nodeAt g.tree (n .child) .next) (r : Ret) (r-is : r ≡ exprAt g d env sp first m) where
     pub operator-passes : NotValue (r .ending) → r ≡ operatorIn g o d env sp n m
     unfolding operatorE
     operator-passes h = rw (← first-is, ← r-is) (passes r h _)
 
-    module _ (t x : ℕ) (found : r .ending ≡ Value t x) (second : ℕ) (second-is : second ≡ nodeAt g.script.tree first .next) where
+    module _ (t x : ℕ) (found : r .ending ≡ Value t x) (second : ℕ) (second-is : second ≡ nodeAt g.tree first .next) where
       pub operator-one : second ≡ 0 → (e : Ending) → e ≡ negated o (row t x) → is e (r .after) ≡ operatorIn g o d env sp n m
       unfolding operatorE pick
       operator-one h e e-is = sym (rw (← first-is, ← r-is, goes r t x found _, ← second-is, eq-eqb second 0 h, e-is))
@@ -174,7 +176,7 @@ module _ (g : Run) (d env sp : ℕ) (m : Tables) (n : Node) where
         unfolding operatorE pick
         operator-passes-2 h = rw (← first-is, ← r-is, goes r t x found _, ← second-is, ne-eqb second 0 some, ← q-is) (passes q h _)
 
-        module _ (u y : ℕ) (met : q .ending ≡ Value u y) (third : ℕ) (third-is : third ≡ nodeAt g.script.tree second .next) where
+        module _ (u y : ℕ) (met : q .ending ≡ Value u y) (third : ℕ) (third-is : third ≡ nodeAt g.tree second .next) where
           pub operator-two : third ≡ 0 → (e : Ending) → e ≡ combined o (n .place) (row t x) (row u y) → is e (q .after) ≡ operatorIn g o d env sp n m
           unfolding operatorE pick
           operator-two h e e-is =
@@ -216,7 +218,7 @@ module _ (g : Run) (d env sp : ℕ) (m : Tables) (n : Node) where
             operator-passes-3 h = passes s h _ ∙ sym operator-more
 
   -- the arguments are evaluated
-  module _ (first : ℕ) (first-is : first ≡ nodeAt g.script.tree (n .child) .next) (r : Ret) (r-is : r ≡ argsAt g d env sp first m) where
+  module _ (first : ℕ) (first-is : first ≡ nodeAt g.tree (n .child) .next) (r : Ret) (r-is : r ≡ argsAt g d env sp first m) where
     module _ (f tag word : ℕ) where
       pub apply-passes : NotValue (r .ending) → r ≡ applyAt g f d env sp tag word n m
       unfolding applyV
@@ -252,7 +254,7 @@ module _ (g : Run) (d env : ℕ) (k u top many i : ℕ) (m : Tables) (more : u <
     args-pass h = rw (args-are, ne-eqb i 0 some, ← r-is) (passes r h _)
 
     module _ (t x : ℕ) (found : r .ending ≡ Value t x) where
-      module _ (next : ℕ) (next-is : next ≡ nodeAt g.script.tree i .next) where
+      module _ (next : ℕ) (next-is : next ≡ nodeAt g.tree i .next) where
         pub args-keep : (w : List ℕ) → w ≡ putRow (r .after .waiting) top t x → (row : ℕ) → row ≡ rowAfter top →
             args g (k - 1) (level g d) env row (many + 1) next
             (tables (r .after .counts) (r .after .bindings) (r .after .cells) (r .after .output) w) ≡

@@ -17,16 +17,16 @@ module _ (g : Run) where
   unfoldable pub partsE : (goes-on : ℕ) → Evaluators → (env sp : ℕ) → Node → Tables → Ret
   partsE b S env sp n m =
       andThen (S .expr env sp (n .child) m) λ t x m₁.
-      pick (isBit t x b) (λ _. S .expr env sp (nodeAt g.script.tree (n .child) .next) m₁) λ _. is (bitAnswer t x) m₁
+      pick (isBit t x b) (λ _. S .expr env sp (nodeAt g.tree (n .child) .next) m₁) λ _. is (bitAnswer t x) m₁
 
   -- the block i, with the names of ρ: the answer is the environment env, under a tag
   unfoldable pub innerC : (tag : ℕ) → Evaluators → (env within sp i : ℕ) → Tables → Ret
-  innerC t S env ρ sp i m = andThen (S .block ρ sp (nodeAt g.script.tree i .child) m) λ _ _ m₁. is (Value t env) m₁
+  innerC t S env ρ sp i m = andThen (S .block ρ sp (nodeAt g.tree i .child) m) λ _ _ m₁. is (Value t env) m₁
 
   -- the value t x applied to the arguments of n, by an application (23) or a CALL
   unfoldable pub applyV : (form : ℕ) → Evaluators → (env sp tag word : ℕ) → Node → Tables → Ret
   applyV f S env sp t x n m =
-      andThen (allArgs g S env sp (nodeAt g.script.tree (n .child) .next) m) λ _ k m₁.
+      andThen (allArgs g S env sp (nodeAt g.tree (n .child) .next) m) λ _ k m₁.
       andThen (opens g f (n .place) k sp t x m₁) λ ρ i m₂.
       pick (eqb f 23) (λ _. S .expr ρ sp i m₂) λ _. innerC 7 S env ρ sp i m₂
 

@@ -1,23 +1,19 @@
 -- The laws that the proofs of the stores cite.
 use mathlib.Core.Path.{_≡_, refl, sym, ap, _∙_}
-use mathlib.Core.Bool.{Bool, true, false, cond}
-use mathlib.Core.List.{List, [], _∷_}
+use mathlib.Core.Bool.{Bool, true, false}
+use mathlib.Core.List.{List}
 use mathlib.Core.Logic.{_⊎_, ⊎-elim}
 use Prim.Native.Nat.{ℕ, suc, _+_, _-_, _≤_, _<_}
 use native.Mathlib.Numerals.{add-one}
 use native.Mathlib.Omega.{arith}
 use borrow.Author.Tests.{eq-eqb, ne-eqb, lt-ltb, le-ltb}
 use denote.Enum.Declared.{tagOf}
-use lib.Dec.{eqb}
-use lib.IntN.{ℤ, pos, negℤ}
-use lib.ListN.{drop, set}
+use lib.Dec.{leb}
+use lib.IntN.{ℤ}
+use lib.ListN.{set}
 use mir.Syntax.{w64}
 use mir.Val.{toZ, ofZ, SFits}
 use mir.Facts.{toZ-ofZ}
-use Rattle.language.specs.Numbers.{Computed, amount, ranged}
-use Rattle.language.specs.Words.{isDigit, stretch, decimal, nameAt}
-use Rattle.language.specs.Bytes.{same-bytes}
-use Rattle.language.specs.Names.{meaning}
 use Rattle.nodes.specs.declared.Node.{Node}
 use Rattle.machine.specs.declared.Binding.{Binding}
 use Rattle.machine.specs.declared.Counts.{Counts}
@@ -25,51 +21,44 @@ use Rattle.machine.specs.declared.Ending.{Ending}
 use Rattle.machine.specs.declared.Ending.the-variants.{Value, Stop, NoRule}
 use Rattle.machine.specs.Entries.{pick, bindingAt}
 use Rattle.machine.specs.State.{Run, Tables, tables, is, ifValue}
-use Rattle.machine.specs.Leaves.{meaningAt, sameName, walk}
+use Rattle.machine.specs.Leaves.{codeIn, walk}
 use Rattle.machine.proofs.Ending.{the-type}
-use Rattle.stores.specs.Choices.{plainBy, plainValue, echoed}
-use Rattle.nodes.specs.Names.{meaningNo}
-use Rattle.nodes.specs.Written.{numberFrom, numberAt}
-use Rattle.amounts.specs.Amounts.{computed}
-use Rattle.amounts.specs.Signs.{signed}
-use Rattle.numerals.specs.Written.{written, written-from, number-front, readNumber}
-use Rattle.amounts.specs.declared.Amount.{Amount}
-use Rattle.numerals.specs.declared.Read.{Read}
-use Rattle.numerals.specs.declared.Read.the-variants.{Number, Not}
-use Rattle.numerals.proofs.Written.{computed-written}
+use Rattle.stores.specs.Choices.{outward, plainBy, plainValue, echoed}
 
 -- ---- names
 
-module _ (text b : List ℕ) (p : ℕ) where
-  pub walk-none : (n env : ℕ) → n ≡ 0 → NoRule ≡ walk text b p n env
+-- a binding's code has 16 bits
+pub code-small : (b : List ℕ) (k : ℕ) → bindingAt b k .code < 65536
+unfolding bindingAt
+code-small b k = omega arith
+
+module _ (b : List ℕ) (c : ℕ) where
+  pub walk-none : (n env : ℕ) → n ≡ 0 → NoRule ≡ walk b c n env
   unfolding walk
   walk-none n env z = rw z
 
   module _ (n env : ℕ) (some : n ≡ 0 → ⊥) where
-    walk-go : walk text b p n env ≡ walk text b p (suc (n - 1)) env
-    walk-go = ap (λ (k : ℕ). walk text b p k env) (omega arith)
+    walk-go : walk b c n env ≡ walk b c (suc (n - 1)) env
+    walk-go = ap (λ (k : ℕ). walk b c k env) (omega arith)
 
-    pub walk-ends : env ≡ 0 → NoRule ≡ walk text b p n env
+    pub walk-ends : env ≡ 0 → NoRule ≡ walk b c n env
     unfolding walk pick
     walk-ends z = rw (walk-go, eq-eqb env 0 z)
 
-    module _ (there : env ≡ 0 → ⊥)
-        (x : Binding)
-        (t : Bool)
-        (x-is : x ≡ bindingAt b (env - 1))
-        (t-is : t ≡ same-bytes (nameAt text (x .place)) (nameAt text p)) where
-      pub walk-finds : t ≡ true → Value (x .tag) (x .word) ≡ walk text b p n env
-      unfolding walk pick sameName
-      walk-finds h = rw (walk-go, ne-eqb env 0 there, ← x-is, ← t-is, h)
+    module _ (there : env ≡ 0 → ⊥) (x : Binding) (x-is : x ≡ bindingAt b (env - 1)) where
+      pub walk-finds : x .code ≡ c → Value (x .tag) (x .word) ≡ walk b c n env
+      unfolding walk pick
+      walk-finds h = rw (walk-go, ne-eqb env 0 there, ← x-is, eq-eqb _ c h)
 
-      pub walk-goes-on : t ≡ false → walk text b p (n - 1) (x .link) ≡ walk text b p n env
-      unfolding walk pick sameName
-      walk-goes-on h = rw (walk-go, ne-eqb env 0 there, ← x-is, ← t-is, h)
+      go-on : (t : Bool) → leb c (codeIn b (x .jump)) ≡ t →
+          walk b c (n - 1) (outward b c x) ≡ pick (leb c (codeIn b (x .jump))) (λ _. walk b c (n - 1) (x .jump)) λ _. walk b c (n - 1) (x .link)
+      unfolding outward pick
+      go-on true e = rw e
+      go-on false e = rw e
 
--- which of the nine names stands at a place
-pub meaning-is : (text : List ℕ) (p k : ℕ) → k ≡ meaningNo (meaning (nameAt text p)) → k ≡ meaningAt text p
-unfolding meaningAt
-meaning-is text p k e = e
+      pub walk-goes-on : (x .code ≡ c → ⊥) → walk b c (n - 1) (outward b c x) ≡ walk b c n env
+      unfolding walk pick
+      walk-goes-on h = go-on (leb c (codeIn b (x .jump))) refl ∙ rw (walk-go, ne-eqb env 0 there, ← x-is, ne-eqb _ c h)
 
 -- an answer that is no value is passed on
 pub if-not-value : (e : Ending) → (tagOf the-type e ≡ 1) ⊎ (tagOf the-type e ≡ 2) → (k : ℕ → ℕ → Ending) → e ≡ ifValue e k
@@ -83,42 +72,14 @@ if-not-value NoRule h k = refl
 pub kept : (z a : ℤ) → SFits w64 z → z ≡ a → toZ w64 (ofZ w64 z) ≡ a
 kept z a f e = toZ-ofZ f ∙ e
 
--- what reading a number finds is the number that is written there, and 0 where none is
-abbrev found : Read → Computed
-found (Number end a) = computed a
-found Not = amount (pos 0)
-
-digits-found : (i : ℕ) (negative : Bool) (digits : List ℕ) → found (written-from i negative digits) ≡ ranged (signed negative (decimal 0 digits))
-digits-found i true [] = refl
-digits-found i false [] = refl
-digits-found i negative (d ∷ ds) = computed-written (signed negative (decimal 0 (d ∷ ds)))
-
-number-found : (i : ℕ) (s : List ℕ) → found (number-front i s) ≡ ranged (numberFrom s)
-number-found i [] = refl
-number-found i (b ∷ s) = by (eqb b 45)
-  where
-    by : (t : Bool) →
-        found (cond t (written-from (i + 1) true (stretch isDigit s)) (written-from i false (stretch isDigit (b ∷ s)))) ≡
-        ranged (cond t (negℤ (pos (decimal 0 (stretch isDigit s)))) (pos (decimal 0 (stretch isDigit (b ∷ s)))))
-    by true = digits-found (i + 1) true (stretch isDigit s)
-    by false = digits-found i false (stretch isDigit (b ∷ s))
-
-pub number-read : (text : List ℕ) (i end : ℕ) (a : Amount) → readNumber text i ≡ Number end a → computed a ≡ ranged (numberAt text i)
-unfolding numberAt
-number-read text i end a e = sym (ap found e) ∙ number-found i (drop i text)
-
-pub number-not : (text : List ℕ) (i : ℕ) → readNumber text i ≡ Not → amount (pos 0) ≡ ranged (numberAt text i)
-unfolding numberAt
-number-not text i e = sym (ap found e) ∙ number-found i (drop i text)
-
 -- ---- what follows a value
 
-module _ (tree text b c : List ℕ) (counts : Counts) (env : ℕ) (n : Node) where
-  pub plain-kind : (k : ℕ) → n .kind ≡ k → plainBy k tree text b c counts env n ≡ plainValue tree text b c counts env n
+module _ (codes b cells : List ℕ) (counts : Counts) (env c : ℕ) (n : Node) where
+  pub plain-kind : (k : ℕ) → n .kind ≡ k → plainBy k codes b cells counts env c n ≡ plainValue codes b cells counts env c n
   unfolding plainValue
-  plain-kind k h = ap (λ (j : ℕ). plainBy j tree text b c counts env n) (sym h)
+  plain-kind k h = ap (λ (j : ℕ). plainBy j codes b cells counts env c n) (sym h)
 
-  pub plain-none : (n .kind ≡ 18 → ⊥) → (n .kind ≡ 19 → ⊥) → (n .kind ≡ 24 → ⊥) → (n .kind ≡ 25 → ⊥) → NoRule ≡ plainValue tree text b c counts env n
+  pub plain-none : (n .kind ≡ 18 → ⊥) → (n .kind ≡ 19 → ⊥) → (n .kind ≡ 24 → ⊥) → (n .kind ≡ 25 → ⊥) → NoRule ≡ plainValue codes b cells counts env c n
   unfolding plainValue plainBy pick
   plain-none h₁ h₂ h₃ h₄ = rw (ne-eqb _ 18 h₁, ne-eqb _ 19 h₂, ne-eqb _ 24 h₃, ne-eqb _ 25 h₄)
 

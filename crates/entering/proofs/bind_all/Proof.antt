@@ -1,3 +1,4 @@
+-- Written by tools/prove from Proof.tmpl.
 use Prim.Native.Nat.{_+_, _≤_}
 use mathlib.Core.Path.{_≡_, refl, _∙_}
 use native.Mathlib.Omega.{arith}
@@ -19,14 +20,14 @@ abbrev μ-loop : tie.MeasureT-loop
 loop-holds : tie.Need-loop-holds Inv-loop μ-loop
 loop-holds c = (refl, refl, omega arith, refl)
 
-node-at-requires : tie.Need-node-at-requires Inv-loop μ-loop
-node-at-requires c κs = search needs
+next-at-requires : tie.Need-next-at-requires Inv-loop μ-loop
+next-at-requires c κs = search needs
 
 row-at-requires : tie.Need-row-at-requires Inv-loop μ-loop
 row-at-requires c κs = search needs
 
-put-binding-requires : tie.Need-put-binding-requires Inv-loop μ-loop
-put-binding-requires c κs = search needs
+add-binding-requires : tie.Need-add-binding-requires Inv-loop μ-loop
+add-binding-requires c κs = search needs
 
 row-after-requires : tie.Need-row-after-requires Inv-loop μ-loop
 row-after-requires c κs = search needs
@@ -41,15 +42,13 @@ loop-less : tie.Need-loop-less Inv-loop μ-loop
 loop-less c = search needs
 
 loop-again : tie.Need-loop-again Inv-loop μ-loop
-loop-again c =
-    let row-after = c .row-after in let put-binding = c .before .before .before .put-binding in let c₁ = c .before .before .before .before .before in
-    let row-at = c₁ .row-at in
-    let node-at = c₁ .before .node-at in let test = c₁ .before .before .loop-test in let turn = c₁ .before .before .before .loop in (
-      bind-goes-on _ _ _ _ _ _ _ _ _ _ _ _ (test .taken) (node-at .ensures) (row-at .ensures) (put-binding .ensures) (row-after .ensures .0) ∙ turn .inv .0,
-      omega arith,
-      row-after .ensures .1,
-      omega (arith, put-binding .kept, turn .inv),
-    )
+loop-again c = (
+  bind-goes-on _ _ _ _ _ _ _ _ _ _ _ _ (c .before .before .before .before .before .before .before .loop-test .taken) (c .before .before .before .before .before .before .next-at .ensures) (c .before .before .before .before .before .row-at .ensures) (c .before .before .before .add-binding .ensures) (c .row-after .ensures .0) ∙
+      c .before .before .before .before .before .before .before .before .loop .inv .0,
+  omega arith,
+  c .row-after .ensures .1,
+  omega (arith, c .before .before .before .add-binding .kept, c .before .before .before .before .before .before .before .before .loop .inv),
+)
 
 same-length : tie.Need-same-length Inv-loop μ-loop
 same-length c = c .before .loop .inv .3
@@ -64,9 +63,9 @@ bind-all-spec =
     Inv-loop
     μ-loop
     loop-holds
-    node-at-requires
+    next-at-requires
     row-at-requires
-    put-binding-requires
+    add-binding-requires
     row-after-requires
     add-next
     sub-left

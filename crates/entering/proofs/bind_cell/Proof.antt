@@ -7,8 +7,8 @@ use Rattle.entering.proofs.bind_cell.Tie as tie
 put-row-requires : tie.Need-put-row-requires
 put-row-requires c κs = search needs
 
-add-t16 : tie.Need-add-t16
-add-t16 c = search needs
+add-more : tie.Need-add-more
+add-more c = search needs
 
 bind-name-requires : tie.Need-bind-name-requires
 bind-name-requires c κs = search needs
@@ -23,17 +23,17 @@ returns : tie.Need-returns
 returns c =
     let bind-name = c .before .before .bind-name in let c₁ = c .before .before .before .before .before .before in let put-row = c₁ .put-row in
     let if1 = c₁ .before .before .if1 in
-    ((λ t v w o. bind-name .ensures .0 t v _ w o ∙ cell-some _ _ _ _ _ (if1 .taken) _ (put-row .ensures)), bind-name .ensures .1)
+    ((λ t v w o. bind-name .ensures .0 t v _ w o ∙ cell-some _ _ _ _ (if1 .taken) _ (put-row .ensures)), bind-name .ensures .1)
 
 returns-2 : tie.Need-returns-2
-returns-2 c = ((λ t v w o. cell-full _ _ _ _ _ (c .if1 .left)), refl)
+returns-2 c = ((λ t v w o. cell-full _ _ _ _ (c .if1 .left)), refl)
 
 pub bind-cell-spec : {M : Type 1} → statement M
 bind-cell-spec =
     tie.close
     (tie.spec
     put-row-requires
-    add-t16
+    add-more
     bind-name-requires
     same-length
     same-length-2

@@ -56,7 +56,7 @@ returns-2 : tie.Need-returns-2
 returns-2 c =
     let bind-name2 = c .before .before .bind-name2 in let c₁ = c .before .before .before .before in let closure-word2 = c₁ .closure-word2 in
     let arms = c₁ .before .match in let node-at = c₁ .before .before .node-at in (
-      (λ v w o. bind-name2 .ensures .0 _ v _ w o ∙ defines-named-function _ _ _ _ _ (node-at .ensures) (arms .keys2) _ (closure-word2 .ensures)),
+      (λ v w o. bind-name2 .ensures .0 _ v _ w o ∙ defines-named-function _ _ _ _ (arms .keys2) _ (closure-word2 .ensures)),
       bind-name2 .ensures .1,
     )
 
@@ -70,7 +70,7 @@ returns-3 : tie.Need-returns-3
 returns-3 c =
     let c₁ = c .before .before .before .before in let bind-cell = c₁ .bind-cell in let c₂ = c₁ .before .before .before in
     let arms = c₂ .match in let node-at = c₂ .before .node-at in
-    ((λ v w o. bind-cell .ensures .0 _ v w o ∙ defines-cell _ _ _ _ _ (node-at .ensures) (arms .keys3)), bind-cell .ensures .1)
+    ((λ v w o. bind-cell .ensures .0 _ v w o ∙ defines-cell _ _ _ _ (arms .keys3)), bind-cell .ensures .1)
 
 same-length-5 : tie.Need-same-length-5
 same-length-5 c = search needs
@@ -90,7 +90,7 @@ returns-5 : tie.Need-returns-5
 returns-5 c =
     let bind-name4 = c .before .before .bind-name4 in let c₁ = c .before .before .before .before in let closure-word4 = c₁ .closure-word4 in
     let arms = c₁ .before .match in let node-at = c₁ .before .before .node-at in (
-      (λ v w o. bind-name4 .ensures .0 _ v _ w o ∙ defines-named-procedure _ _ _ _ _ (node-at .ensures) (arms .keys5) _ (closure-word4 .ensures)),
+      (λ v w o. bind-name4 .ensures .0 _ v _ w o ∙ defines-named-procedure _ _ _ _ (arms .keys5) _ (closure-word4 .ensures)),
       bind-name4 .ensures .1,
     )
 

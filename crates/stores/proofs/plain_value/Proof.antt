@@ -7,24 +7,21 @@ use borrow.Author.Needs.{needs}
 use Rattle.stores.proofs.plain_value.Statement.{statement}
 use Rattle.stores.proofs.plain_value.Tie as tie
 
-numeral-at-requires : tie.Need-numeral-at-requires
-numeral-at-requires c κs = search needs
-
 name-value-requires : tie.Need-name-value-requires
 name-value-requires c κs = search needs
 
 closure-word-requires : tie.Need-closure-word-requires
 closure-word-requires c κs = search needs
 
-place-at-requires : tie.Need-place-at-requires
-place-at-requires c κs = search needs
+entry-requires : tie.Need-entry-requires
+entry-requires c κs = search needs
 
 address-of-requires : tie.Need-address-of-requires
 address-of-requires c κs = search needs
 
 returns : tie.Need-returns
 unfolding plainBy pick
-returns c = c .numeral-at .ensures ∙ plain-kind _ _ _ _ _ _ _ 18 (c .before .match .keys1)
+returns c = plain-kind _ _ _ _ _ _ _ 18 (c .match .keys1)
 
 returns-2 : tie.Need-returns-2
 unfolding plainBy pick
@@ -36,7 +33,7 @@ returns-3 c = ap (Value 1) (c .closure-word .ensures) ∙ plain-kind _ _ _ _ _ _
 
 returns-4 : tie.Need-returns-4
 unfolding plainBy pick
-returns-4 c = rw (c .address-of .ensures, c .before .place-at .ensures) (plain-kind _ _ _ _ _ _ _ 25 (c .before .before .match .keys4))
+returns-4 c = rw (c .address-of .ensures, c .before .entry .ensures) (plain-kind _ _ _ _ _ _ _ 25 (c .before .before .match .keys4))
 
 returns-5 : tie.Need-returns-5
 returns-5 c = plain-none _ _ _ _ _ _ _ (c .match .rest .0 .0 .0 .1) (c .match .rest .0 .0 .1) (c .match .rest .0 .1) (c .match .rest .1)
@@ -45,10 +42,9 @@ pub plain-value-spec : {M : Type 1} → statement M
 plain-value-spec =
     tie.close
     (tie.spec
-    numeral-at-requires
     name-value-requires
     closure-word-requires
-    place-at-requires
+    entry-requires
     address-of-requires
     returns
     returns-2

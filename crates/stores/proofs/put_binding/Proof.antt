@@ -3,6 +3,12 @@ use borrow.Author.Needs.{needs}
 use Rattle.stores.proofs.put_binding.Statement.{statement}
 use Rattle.stores.proofs.put_binding.Tie as tie
 
+mul-above : tie.Need-mul-above
+mul-above c = search needs
+
+add-above : tie.Need-add-above
+add-above c = search needs
+
 mul-head : tie.Need-mul-head
 mul-head c = search needs
 
@@ -28,4 +34,4 @@ returns c = search needs
 pub put-binding-spec : {M : Type 1} → statement M
 put-binding-spec =
     tie.close
-    (tie.spec mul-head add-head mul-head-2 add-head-2 put-row-requires same-length returns)
+    (tie.spec mul-above add-above mul-head add-head mul-head-2 add-head-2 put-row-requires same-length returns)

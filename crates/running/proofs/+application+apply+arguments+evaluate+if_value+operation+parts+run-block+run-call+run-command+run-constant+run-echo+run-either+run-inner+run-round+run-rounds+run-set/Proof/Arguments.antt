@@ -31,14 +31,14 @@ called t = (
 )
 
 abbrev Inv-loop : lts.InvT-loop
-Inv-loop tree text bindings₀ cells₀ out₀ waiting₀ at i bounds top₀ many₀ node₀ left₀ bindings cells out waiting top many node left =
-    Going (λ k. args (running tree text (at .bounds)) k (level (running tree text (at .bounds)) (at .depth)) (at .env) top many node (tables
-    left bindings cells out waiting)) (argsAt (running tree text (at .bounds)) (at .depth) (at .env) (at .sp) i (tables left₀ bindings₀
+Inv-loop tree codes bindings₀ cells₀ out₀ waiting₀ at i bounds top₀ many₀ node₀ left₀ bindings cells out waiting top many node left =
+    Going (λ k. args (running tree codes (at .bounds)) k (level (running tree codes (at .bounds)) (at .depth)) (at .env) top many node (tables
+    left bindings cells out waiting)) (argsAt (running tree codes (at .bounds)) (at .depth) (at .env) (at .sp) i (tables left₀ bindings₀
     cells₀ out₀ waiting₀)) (left .units) (left₀ .units) × (top ≤ 4096) × (many + left .units ≤ left₀ .units) × (length bindings ≡ length bindings₀) × (length cells ≡ length
     cells₀) × (length out ≡ length out₀) × (length waiting ≡ length waiting₀)
 
 abbrev μ-loop : lts.MeasureT-loop
-μ-loop tree text bindings₀ cells₀ out₀ waiting₀ at i bounds top₀ many₀ node₀ left₀ bindings cells out waiting top many node left = left .units
+μ-loop tree codes bindings₀ cells₀ out₀ waiting₀ at i bounds top₀ many₀ node₀ left₀ bindings cells out waiting top many node left = left .units
 
 module _ (t : ℕ) where
   loop-holds : lts.Need-loop-holds (called t) (arguments-at t) own.Post Inv-loop μ-loop

@@ -5,7 +5,7 @@ use Rattle.running.proofs.Commands.{call-none, call-applies}
 use borrow.Author.Needs.{needs}
 use Rattle.running.proofs.apply.Reads as apply-reads
 use Rattle.stores.proofs.bound_to.Reads as bound-to-reads
-use Rattle.nodes.proofs.place_at.Reads as place-at-reads
+use Rattle.tables.proofs.entry.Reads as entry-reads
 use Rattle.running.proofs.run.call.Reads as own
 use Rattle.running.proofs.+application+apply+arguments+evaluate+if_value+operation+parts+run-block+run-call+run-command+run-constant+run-echo+run-either+run-inner+run-round+run-rounds+run-set
     as cycle
@@ -13,11 +13,11 @@ use cycle.Lts-run-call as lts
 use cycle.Proof.Measures.{run·call-at, apply-below}
 
 abbrev called : ℕ → lts.Claims
-called t = (place-at-reads.Asked, place-at-reads.Learnt, bound-to-reads.Asked, bound-to-reads.Learnt, apply-below t, apply-reads.Post)
+called t = (entry-reads.Asked, entry-reads.Learnt, bound-to-reads.Asked, bound-to-reads.Learnt, apply-below t, apply-reads.Post)
 
 module _ (t : ℕ) where
-  place-at-requires : lts.Need-place-at-requires (called t) (run·call-at t) own.Post
-  place-at-requires c κs = search needs
+  entry-requires : lts.Need-entry-requires (called t) (run·call-at t) own.Post
+  entry-requires c κs = search needs
 
   bound-to-requires : lts.Need-bound-to-requires (called t) (run·call-at t) own.Post
   bound-to-requires c κs = search needs
@@ -47,18 +47,18 @@ module _ (t : ℕ) where
   returns c =
       let c₁ = c .before .before .before .before .before .before .before in let apply = c₁ .apply in
       let c₂ = c₁ .before .before .before .before .before .before in let target = c₂ .target in
-      let bound-to = c₂ .before .before .bound-to in let place-at = c₂ .before .before .before .before .place-at in
-      (call-applies _ _ _ _ _ _ _ (place-at .ensures) _ (bound-to .ensures) _ _ (target .given .1) _ (apply .ensures .0), apply .ensures .1)
+      let bound-to = c₂ .before .before .bound-to in let entry = c₂ .before .before .before .before .entry in
+      (call-applies _ _ _ _ _ _ _ (entry .ensures) _ (bound-to .ensures) _ _ (target .given .1) _ (apply .ensures .0), apply .ensures .1)
 
   same-length-5 : lts.Need-same-length-5 (called t) (run·call-at t) own.Post
   same-length-5 c = omega (arith)
 
   returns-2 : lts.Need-returns-2 (called t) (run·call-at t) own.Post
   returns-2 c =
-      let arms = c .match in let bound-to = c .before .bound-to in let place-at = c .before .before .before .place-at in
-      (call-none _ _ _ _ _ _ _ (place-at .ensures) _ (bound-to .ensures) (arms .keys2), omega arith)
+      let arms = c .match in let bound-to = c .before .bound-to in let entry = c .before .before .before .entry in
+      (call-none _ _ _ _ _ _ _ (entry .ensures) _ (bound-to .ensures) (arms .keys2), omega arith)
 
   pub closed : {M : Type 1} → lts.Closed (called t) (run·call-at t) own.Post M
   closed =
-      lts.spec (called t) (run·call-at t) own.Post place-at-requires bound-to-requires enum-known-target apply-requires same-length
+      lts.spec (called t) (run·call-at t) own.Post entry-requires bound-to-requires enum-known-target apply-requires same-length
       same-length-2 same-length-3 same-length-4 returns same-length-5 returns-2

@@ -10,7 +10,7 @@ use Rattle.entering.proofs.guard.Reads as guard-reads
 use Rattle.running.proofs.if_value.Reads as if-value-reads
 use Rattle.nodes.proofs.node_at.Reads as node-at-reads
 use Rattle.running.proofs.operation.Reads as operation-reads
-use Rattle.stores.proofs.operator_at.Reads as operator-at-reads
+use Rattle.tables.proofs.entry.Reads as entry-reads
 use Rattle.running.proofs.parts.Reads as parts-reads
 use Rattle.stores.proofs.plain_value.Reads as plain-value-reads
 use Rattle.running.proofs.evaluate.Reads as own
@@ -29,8 +29,8 @@ called t = (
   if-value-reads.Post,
   parts-below t,
   parts-reads.Post,
-  operator-at-reads.Asked,
-  operator-at-reads.Learnt,
+  entry-reads.Asked,
+  entry-reads.Learnt,
   application-below t,
   application-reads.Post,
   operation-below t,
@@ -76,8 +76,8 @@ module _ (t : ℕ) where
       let asked = c₂ .pre in
       omega (arith, asked, guard .ensures .1 .1 _ _ (found .given .1))
 
-  operator-at-requires : lts.Need-operator-at-requires (called t) (evaluate-at t) own.Post
-  operator-at-requires c κs = search needs
+  entry-requires : lts.Need-entry-requires (called t) (evaluate-at t) own.Post
+  entry-requires c κs = search needs
 
   application-requires : lts.Need-application-requires (called t) (evaluate-at t) own.Post
   application-requires c κs =
@@ -96,6 +96,9 @@ module _ (t : ℕ) where
       let c₂ = c₁ .before .before .before .before .before .before .before .before .before .before in
       let asked = c₂ .pre in
       omega (arith, asked, guard .ensures .1 .1 _ _ (found .given .1))
+
+  entry-requires-2 : lts.Need-entry-requires-2 (called t) (evaluate-at t) own.Post
+  entry-requires-2 c κs = search needs
 
   plain-value-requires : lts.Need-plain-value-requires (called t) (evaluate-at t) own.Post
   plain-value-requires c κs = search needs
@@ -238,14 +241,14 @@ module _ (t : ℕ) where
       let application = c₁ .application in
       let c₂ = c₁ .before .before .before .before .before in
       let if1 = c₂ .if1 in
-      let operator-at = c₂ .before .operator-at in
+      let entry = c₂ .before .entry in
       let match2 = c₂ .before .before .match2 in
       let c₃ = c₂ .before .before .before .before .before in
       let found = c₃ .found in
       let guard = c₃ .before .before .before .guard in
       let c₄ = c₃ .before .before .before .before in
       let node-at = c₄ .node-at in
-      (expr-call _ _ _ _ _ _ _ (node-at .ensures) _ (guard .ensures .0 _ _ _ _) _ _ (found .given .1) (match2 .keys4) _ (operator-at .ensures _) (if1 .taken) _ (application .ensures .0), omega (arith, guard .ensures .1 .0, valued-one _ _ _ (found .given .1), application .ensures .1, valued-le (application .result .ending)))
+      (expr-call _ _ _ _ _ _ _ (node-at .ensures) _ (guard .ensures .0 _ _ _ _) _ _ (found .given .1) (match2 .keys4) _ (entry .ensures) (if1 .taken) _ (application .ensures .0), omega (arith, guard .ensures .1 .0, valued-one _ _ _ (found .given .1), application .ensures .1, valued-le (application .result .ending)))
 
   same-length-17 : lts.Need-same-length-17 (called t) (evaluate-at t) own.Post
   same-length-17 c =
@@ -277,14 +280,14 @@ module _ (t : ℕ) where
       let operation = c₁ .operation in
       let c₂ = c₁ .before .before .before .before .before in
       let if1 = c₂ .if1 in
-      let operator-at = c₂ .before .operator-at in
+      let entry = c₂ .before .entry in
       let match2 = c₂ .before .before .match2 in
       let c₃ = c₂ .before .before .before .before .before in
       let found = c₃ .found in
       let guard = c₃ .before .before .before .guard in
       let c₄ = c₃ .before .before .before .before in
       let node-at = c₄ .node-at in
-      (expr-operator _ _ _ _ _ _ _ (node-at .ensures) _ (guard .ensures .0 _ _ _ _) _ _ (found .given .1) (match2 .keys4) _ (operator-at .ensures _) (if1 .left) _ (operation .ensures .0), omega (arith, guard .ensures .1 .0, valued-one _ _ _ (found .given .1), operation .ensures .1, valued-le (operation .result .ending)))
+      (expr-operator _ _ _ _ _ _ _ (node-at .ensures) _ (guard .ensures .0 _ _ _ _) _ _ (found .given .1) (match2 .keys4) _ (entry .ensures) (if1 .left) _ (operation .ensures .0), omega (arith, guard .ensures .1 .0, valued-one _ _ _ (found .given .1), operation .ensures .1, valued-le (operation .result .ending)))
 
   same-length-21 : lts.Need-same-length-21 (called t) (evaluate-at t) own.Post
   same-length-21 c = omega arith
@@ -295,13 +298,14 @@ module _ (t : ℕ) where
   returns-6 : lts.Need-returns-6 (called t) (evaluate-at t) own.Post
   returns-6 c =
       let plain-value = c .plain-value in
-      let match2 = c .before .before .before .match2 in
-      let c₁ = c .before .before .before .before .before .before in
+      let entry2 = c .before .before .before .entry2 in
+      let match2 = c .before .before .before .before .match2 in
+      let c₁ = c .before .before .before .before .before .before .before in
       let found = c₁ .found in
       let guard = c₁ .before .before .before .guard in
       let c₂ = c₁ .before .before .before .before in
       let node-at = c₂ .node-at in
-      (expr-plain _ _ _ _ _ _ _ (node-at .ensures) _ (guard .ensures .0 _ _ _ _) _ _ (found .given .1) (match2 .rest .0 .0 .0 .1) (match2 .rest .0 .0 .1) (match2 .rest .0 .1) (match2 .rest .1) _ (plain-value .ensures), omega (arith, guard .ensures .1 .0, valued-one _ _ _ (found .given .1), valued-le (plain-value .result)))
+      (expr-plain _ _ _ _ _ _ _ (node-at .ensures) _ (guard .ensures .0 _ _ _ _) _ _ (found .given .1) (match2 .rest .0 .0 .0 .1) (match2 .rest .0 .0 .1) (match2 .rest .0 .1) (match2 .rest .1) _ (entry2 .ensures) _ (plain-value .ensures), omega (arith, guard .ensures .1 .0, valued-one _ _ _ (found .given .1), valued-le (plain-value .result)))
 
   returns-7 : lts.Need-returns-7 (called t) (evaluate-at t) own.Post
   returns-7 c =
@@ -311,4 +315,4 @@ module _ (t : ℕ) where
       (expr-stops _ _ _ _ _ _ _ (node-at .ensures) _ (guard .ensures .0 _ _ _ _) (match .keys2), guard .ensures .1 .0)
 
   pub closed : {M : Type 1} → lts.Closed (called t) (evaluate-at t) own.Post M
-  closed = lts.spec (called t) (evaluate-at t) own.Post node-at-requires guard-requires enum-known-found if-value-requires parts-requires parts-requires-2 operator-at-requires application-requires operation-requires plain-value-requires same-length same-length-2 same-length-3 same-length-4 returns same-length-5 same-length-6 same-length-7 same-length-8 returns-2 same-length-9 same-length-10 same-length-11 same-length-12 returns-3 same-length-13 same-length-14 same-length-15 same-length-16 returns-4 same-length-17 same-length-18 same-length-19 same-length-20 returns-5 same-length-21 same-length-22 returns-6 returns-7
+  closed = lts.spec (called t) (evaluate-at t) own.Post node-at-requires guard-requires enum-known-found if-value-requires parts-requires parts-requires-2 entry-requires application-requires operation-requires entry-requires-2 plain-value-requires same-length same-length-2 same-length-3 same-length-4 returns same-length-5 same-length-6 same-length-7 same-length-8 returns-2 same-length-9 same-length-10 same-length-11 same-length-12 returns-3 same-length-13 same-length-14 same-length-15 same-length-16 returns-4 same-length-17 same-length-18 same-length-19 same-length-20 returns-5 same-length-21 same-length-22 returns-6 returns-7

@@ -7,6 +7,7 @@ use Rattle.stores.proofs.address_of.Reads as address-of-reads
 use Rattle.running.proofs.evaluate.Reads as evaluate-reads
 use Rattle.nodes.proofs.node_at.Reads as node-at-reads
 use Rattle.stores.proofs.store_cell.Reads as store-cell-reads
+use Rattle.tables.proofs.entry.Reads as entry-reads
 use Rattle.running.proofs.run.set.Reads as own
 use Rattle.running.proofs.+application+apply+arguments+evaluate+if_value+operation+parts+run-block+run-call+run-command+run-constant+run-echo+run-either+run-inner+run-round+run-rounds+run-set
     as cycle
@@ -17,6 +18,8 @@ abbrev called : ℕ → lts.Claims
 called t = (
   node-at-reads.Asked,
   node-at-reads.Learnt,
+  entry-reads.Asked,
+  entry-reads.Learnt,
   address-of-reads.Asked,
   address-of-reads.Learnt,
   evaluate-below t,
@@ -29,6 +32,9 @@ module _ (t : ℕ) where
   node-at-requires : lts.Need-node-at-requires (called t) (run·set-at t) own.Post
   node-at-requires c κs = search needs
 
+  entry-requires : lts.Need-entry-requires (called t) (run·set-at t) own.Post
+  entry-requires c κs = search needs
+
   address-of-requires : lts.Need-address-of-requires (called t) (run·set-at t) own.Post
   address-of-requires c κs = search needs
 
@@ -38,7 +44,7 @@ module _ (t : ℕ) where
   evaluate-requires : lts.Need-evaluate-requires (called t) (run·set-at t) own.Post
   evaluate-requires c κs =
       let c₁ = c .before .before .before .before .before .before .before .before .before .before .before .before .before .before in
-      let asked = c₁ .before .pre in
+      let asked = c₁ .before .before .pre in
       omega (arith, asked)
 
   enum-known-found : lts.Need-enum-known-found (called t) (run·set-at t) own.Post
@@ -80,8 +86,9 @@ module _ (t : ℕ) where
       let store-cell = c .before .before .store-cell in let c₁ = c .before .before .before .before .before in let found = c₁ .found in
       let c₂ = c₁ .before .before .before .before .before .before .before .before .before .before in let evaluate = c₂ .evaluate in
       let c₃ = c₂ .before .before .before .before .before .before in let target = c₃ .target in
-      let address-of = c₃ .before .before .address-of in let node-at = c₃ .before .before .before .before .node-at in (
-        set-stores _ _ _ _ _ _ _ (node-at .ensures) _ (address-of .ensures) _ _ (target .given .1) _ (evaluate .ensures .0) _ _ (found .given .1)
+      let address-of = c₃ .before .before .address-of in let entry = c₃ .before .before .before .before .entry in
+      let node-at = c₃ .before .before .before .before .before .node-at in (
+        set-stores _ _ _ _ _ _ _ (node-at .ensures) _ (entry .ensures) _ (address-of .ensures) _ _ (target .given .1) _ (evaluate .ensures .0) _ _ (found .given .1)
             _ (store-cell .ensures .0 _ _ _),
         omega (arith, evaluate .ensures .1, store-cell .ensures .1),
       )
@@ -102,8 +109,9 @@ module _ (t : ℕ) where
   returns-2 c =
       let arms2 = c .match2 in let c₁ = c .before .before .before .before .before .before .before .before .before in
       let evaluate = c₁ .evaluate in let c₂ = c₁ .before .before .before .before .before .before in let target = c₂ .target in
-      let address-of = c₂ .before .before .address-of in let node-at = c₂ .before .before .before .before .node-at in (
-        set-passes _ _ _ _ _ _ _ (node-at .ensures) _ (address-of .ensures) _ _ (target .given .1) _ (evaluate .ensures .0) (arms2 .keys2),
+      let address-of = c₂ .before .before .address-of in let entry = c₂ .before .before .before .before .entry in
+      let node-at = c₂ .before .before .before .before .before .node-at in (
+        set-passes _ _ _ _ _ _ _ (node-at .ensures) _ (entry .ensures) _ (address-of .ensures) _ _ (target .given .1) _ (evaluate .ensures .0) (arms2 .keys2),
         omega (arith, evaluate .ensures .1),
       )
 
@@ -112,11 +120,12 @@ module _ (t : ℕ) where
 
   returns-3 : lts.Need-returns-3 (called t) (run·set-at t) own.Post
   returns-3 c =
-      let arms = c .match in let address-of = c .before .address-of in let node-at = c .before .before .before .node-at in
-      (set-none _ _ _ _ _ _ _ (node-at .ensures) _ (address-of .ensures) (arms .keys2), omega arith)
+      let arms = c .match in let address-of = c .before .address-of in let entry = c .before .before .before .entry in
+      let node-at = c .before .before .before .before .node-at in
+      (set-none _ _ _ _ _ _ _ (node-at .ensures) _ (entry .ensures) _ (address-of .ensures) (arms .keys2), omega arith)
 
   pub closed : {M : Type 1} → lts.Closed (called t) (run·set-at t) own.Post M
   closed =
-      lts.spec (called t) (run·set-at t) own.Post node-at-requires address-of-requires enum-known-target evaluate-requires enum-known-found
+      lts.spec (called t) (run·set-at t) own.Post node-at-requires entry-requires address-of-requires enum-known-target evaluate-requires enum-known-found
       store-cell-requires same-length same-length-2 same-length-3 same-length-4 returns same-length-5 same-length-6 same-length-7
       same-length-8 returns-2 same-length-9 returns-3

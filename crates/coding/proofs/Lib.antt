@@ -1,0 +1,4 @@
+pub mod Numbers
+pub mod Stack
+pub mod Pen
+pub mod Rows

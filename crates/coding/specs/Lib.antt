@@ -1,0 +1,3 @@
+pub mod Stack
+pub mod Pen
+pub mod Coding
