@@ -25,12 +25,15 @@ use Rattle.machine.specs.Entries.{ring-rows}
 use Rattle.machine.specs.State.{Ret}
 use Rattle.machine.specs.Shown.{fresh, program}
 use Rattle.machine.proofs.Relation.{Kept}
-use Rattle.machine.proofs.Whole.{RunsAs, text-runs, ends-as, never-stuck}
+use Rattle.machine.specs.Codes.{codesOf}
+use Rattle.machine.proofs.Codes.{codes-fit}
+use Rattle.machine.proofs.Whole.{RunsAs, coded-runs, ends-as, never-stuck}
 use Rattle.answers.specs.declared.Report.{Report}
 use Rattle.answers.specs.Answers.{meant, said}
 use Rattle.answers.specs.Ended.{ended, counted, reported}
 use Rattle.answers.proofs.Ends.{ended-meant, reported-counts}
-use Rattle.gate.specs.Steps.{Came, came, cleared-after}
+use Rattle.gate.specs.Steps.{Came, came, cleared-after, RunCoded}
+use Rattle.gate.proofs.Programs.{right-all}
 use Rattle.gate.proofs.Tables.{both, fits-in, front-large, rest-large, cleared-append, cleared-kept, cleared-lent, word-of-tree}
 
 -- ---- CHECK's promise, where neither the text nor a table is refused
@@ -138,51 +141,56 @@ module _ (n : ℕ) (size : n ≡ 2 * ring-rows) (L : Limits) (text tree : List �
             words = λ j. ap (λ l. getD (take tree-words l) j 0) e ∙ word-of-tree tree-words (table b) tree (room text b (typed-of x .0)) j;
           }
 
-      -- what the evaluator does on the tree words
-      evaluated : List ℕ → Ret
-      evaluated t = program (take tree-words t) text L (fresh (L .fuel) bindings cells output waiting)
+      -- what the evaluator does on the tree words and these codes
+      evaluated : (codes t : List ℕ) → Ret
+      evaluated codes t = program (take tree-words t) codes L (fresh (L .fuel) bindings cells output waiting)
 
-      runs : (t : List ℕ) → t ≡ holding tree-words (table b) tree → RunsAs L b (fresh (L .fuel) bindings cells output waiting) (evaluated t)
+      runs : (codes t : List ℕ) → t ≡ holding tree-words (table b) tree → ((i : ℕ) → getD codes i 0 ≡ getD (codesOf (script t)) i 0) →
+          RunsAs L b (fresh (L .fuel) bindings cells output waiting) (evaluated codes t)
       unfolding script evaluated
-      runs t e =
+      runs codes t e right =
           let f = fit-of large in
-          text-runs (script t) L b bindings cells output waiting (read-as t e) admitted (f .bindings-fit) (f .cells-fit) (f .output-fits)
+          coded-runs (script t) codes L b bindings cells output waiting (read-as t e) right admitted (f .bindings-fit) (f .cells-fit) (f .output-fits)
           (subst (λ k. k ≤ length waiting) size (f .waiting-fits))
 
-      module _ (t : List ℕ) (tree-is : t ≡ holding tree-words (table b) tree) where
-        ends : end-of (run L b) ≡ some (meant (ended (evaluated t .ending)))
-        ends = ends-as (runs t tree-is) ∙ ended-meant (runs t tree-is .ending-known) (never-stuck (runs t tree-is) (typed-of x .1))
+      module _ (codes t : List ℕ) (tree-is : t ≡ holding tree-words (table b) tree) (right : (i : ℕ) → getD codes i 0 ≡ getD (codesOf (script t)) i 0) where
+        ends : end-of (run L b) ≡ some (meant (ended (evaluated codes t .ending)))
+        ends = ends-as (runs codes t tree-is right) ∙ ended-meant (runs codes t tree-is right .ending-known) (never-stuck (runs codes t tree-is right) (typed-of x .1))
 
-        counts : reported (L .fuel) (evaluated t .ending) (evaluated t .after .counts) ≡ counted (L .fuel) (ended (evaluated t .ending)) (evaluated t .after .counts)
-        counts = reported-counts (L .fuel) (evaluated t .after .counts) (runs t tree-is .ending-known) (never-stuck (runs t tree-is) (typed-of x .1))
+        counts : reported (L .fuel) (evaluated codes t .ending) (evaluated codes t .after .counts) ≡
+            counted (L .fuel) (ended (evaluated codes t .ending)) (evaluated codes t .after .counts)
+        counts =
+            reported-counts (L .fuel) (evaluated codes t .after .counts) (runs codes t tree-is right .ending-known)
+            (never-stuck (runs codes t tree-is right) (typed-of x .1))
 
-        kept-waiting : Kept n waiting (evaluated t .after .waiting)
+        kept-waiting : Kept n waiting (evaluated codes t .after .waiting)
         unfolding evaluated
-        kept-waiting = subst (λ k. Kept k waiting (evaluated t .after .waiting)) (sym size) (runs t tree-is .waiting-kept)
+        kept-waiting = subst (λ k. Kept k waiting (evaluated codes t .after .waiting)) (sym size) (runs codes t tree-is right .waiting-kept)
 
-        accepted-after : {ws : List (List ℕ)} {r : Report} {w b′ c′ : List ℕ} {o : List ℤ} → ws ≡ cleared works → came r w b′ c′ o ≡ cleared-after n L (evaluated t) →
+        accepted-after : {ws : List (List ℕ)} {r : Report} {w b′ c′ : List ℕ} {o : List ℤ} → ws ≡ cleared works → came r w b′ c′ o ≡ cleared-after n L (evaluated codes t) →
             Run L text tree working stores output (record { says = said r; tree = t; works = ws ++ (w ∷ []); stores = b′ ∷ c′ ∷ []; output = o })
         unfolding evaluated
         accepted-after wh e =
             let f = fit-of large in
-            let h = runs t tree-is in
+            let h = runs codes t tree-is right in
             subst (Run L text tree working stores output)
-            (ran-eq (h .tells (meant (ended (evaluated t .ending))) ∙ (ap said (sym counts) ∙ ap (λ k. said (k .report)) (sym e))) (sym tree-is)
-            (works-are wh (ap (λ k. k .waiting) e ∙ cleared-kept n waiting (evaluated t .after .waiting) (f .waiting-fits) kept-waiting))
+            (ran-eq (h .tells (meant (ended (evaluated codes t .ending))) ∙ (ap said (sym counts) ∙ ap (λ k. said (k .report)) (sym e))) (sym tree-is)
+            (works-are wh (ap (λ k. k .waiting) e ∙ cleared-kept n waiting (evaluated codes t .after .waiting) (f .waiting-fits) kept-waiting))
             (two-eq
-            (sym (ap (λ k. k .bindings) e ∙ cleared-kept (2 * L .bindings) bindings (evaluated t .after .bindings) (f .bindings-fit) (h .bindings-kept)))
-            (sym (ap (λ k. k .cells) e ∙ cleared-kept (2 * L .cells) cells (evaluated t .after .cells) (f .cells-fit) (h .cells-kept))))
+            (sym (ap (λ k. k .bindings) e ∙ cleared-kept (2 * L .bindings) bindings (evaluated codes t .after .bindings) (f .bindings-fit) (h .bindings-kept)))
+            (sym (ap (λ k. k .cells) e ∙ cleared-kept (2 * L .cells) cells (evaluated codes t .after .cells) (f .cells-fit) (h .cells-kept))))
             (sym (ap (λ k. k .output) e ∙ h .output-is)))
             (ran short admitted large x ends)
 
     pub accepted-text : {c : Checked} {r : Report} {w b′ c′ : List ℕ} {o : List ℤ} → Check text tree works c → c .answer ≡ done →
-        came r w b′ c′ o ≡ cleared-after n L (program (take tree-words (c .tree)) text L (fresh (L .fuel) bindings cells output waiting)) →
+        RunCoded n L text (take tree-words (c .tree)) (fresh (L .fuel) bindings cells output waiting) (came r w b′ c′ o) →
         Run L text tree working stores output (record { says = said r; tree = c .tree; works = c .works ++ (w ∷ []); stores = b′ ∷ c′ ∷ []; output = o })
-    unfolding evaluated
+    unfolding script evaluated
     accepted-text {c} k e h =
         let f = fit-of large in
         let v = verdict-of short (f .checked) k in
         let b = accepted-tree (v .0) (sym e ∙ ap (λ r. r .answer) (v .2)) in
         let x : Verdict text (fine (b .0)) = subst (Verdict text) (b .1) (v .1) in
         let t : c .tree ≡ holding tree-words (table (b .0)) tree = ap (λ r. r .tree) (v .2) ∙ ap (λ y. tree-after y tree) (b .1) in
-        accepted-after x (c .tree) t (ap (λ r. r .works) (v .2)) h
+        let right = right-all text (take tree-words (c .tree)) (h .codes) (h .short) (h .right) (codes-fit (script x (c .tree)) (read-as x (c .tree) t)) in
+        accepted-after x (h .codes) (c .tree) t right (ap (λ r. r .works) (v .2)) (h .came-is)

@@ -12,7 +12,7 @@ use Rattle.language.specs.Answers as language
 use Rattle.language.specs.Limits.{Limits, Admitted}
 use Rattle.language.specs.Promises.{text-bytes, Check, Ran, all-large, Run, too-much}
 use Rattle.limits.specs.Cleared as limits
-use Rattle.machine.specs.Shown.{fresh, program}
+use Rattle.machine.specs.Shown.{fresh}
 use Rattle.verdict.specs.declared.Verdict.{Verdict}
 use Rattle.verdict.specs.Answers.{lent, checked}
 use Rattle.verdict.specs.Answers as verdict
@@ -24,7 +24,7 @@ use Rattle.gate.specs.Lent.{working, stores, left}
 use Rattle.gate.specs.declared.Within.{Within}
 use Rattle.gate.specs.declared.Admission.{Admission}
 use Rattle.gate.specs.declared.Admission.the-variants.{Made, Beyond}
-use Rattle.gate.specs.Steps.{numbers-of, Admits, came, cleared-after}
+use Rattle.gate.specs.Steps.{numbers-of, Admits, came, RunCoded}
 use Rattle.gate.proofs.Tables.{both, fits-in}
 use Rattle.gate.proofs.Promised.{refused-text, accepted-text}
 
@@ -89,7 +89,7 @@ module _ (L : Limits) (text tree words stack scopes notes waiting bindings cells
             (subst (λ b. Promise (record { says = record { answer = b; units = 0; bindings = 0; cells = 0; numbers = 0 }; tree = tree′; works = words′ ∷ stack′ ∷ scopes′ ∷ notes′ ∷ w ∷ []; stores = bindings ∷ cells ∷ []; output = output })) (sym answers) h)
 
         pub accepted-run : {r : Report} {k : ℕ} {w b c : List ℕ} {o : List ℤ} → k ≡ number-of (meant a) → k ≡ 0 →
-            came r w b c o ≡ cleared-after 8192 L (program (take 4096 tree′) text L (fresh (L .fuel) bindings cells output waiting)) →
+            RunCoded 8192 L text (take 4096 tree′) (fresh (L .fuel) bindings cells output waiting) (came r w b c o) →
             Promise (left r tree′ words′ stack′ scopes′ notes′ w b c o)
         accepted-run n z e =
             accepted-text 8192 refl L text tree (lent words stack scopes notes) waiting bindings cells output short admitted (sym tested ∙ fits) judged
