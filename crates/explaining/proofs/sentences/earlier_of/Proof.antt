@@ -12,8 +12,8 @@ abbrev μ-loop : tie.MeasureT-loop
 loop-holds : tie.Need-loop-holds Inv-loop μ-loop
 loop-holds c = search needs
 
-read-at-requires : tie.Need-read-at-requires Inv-loop μ-loop
-read-at-requires c κs = search needs
+two-words-requires : tie.Need-two-words-requires Inv-loop μ-loop
+two-words-requires c κs = search needs
 
 start-of-requires : tie.Need-start-of-requires Inv-loop μ-loop
 start-of-requires c κs = search needs
@@ -49,7 +49,7 @@ earlier-of-spec =
     Inv-loop
     μ-loop
     loop-holds
-    read-at-requires
+    two-words-requires
     start-of-requires
     returns
     mark-of-requires
