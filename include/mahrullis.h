@@ -6,7 +6,7 @@
  * What is believed of the caller, and all of it:
  *   - each pointer is not null, is aligned for its type, and is valid for as many entries as the length after it says, also where that is 0;
  *   - the text and the tables do not overlap, and nothing else reads or writes the tables, or writes the text, during the call;
- *   - the thread has stack left: a run at depth 200 was seen to take up to 370 KB, 100 KB of it at any depth, CHECK 14 KB (measured, not proved).
+ *   - the thread has stack left: a run at depth 200 was seen to take up to 520 KB, 100 KB of it at any depth, CHECK 14 KB (measured, not proved).
  * Lengths are counted in entries, not in bytes. Any length, any limit, any text and any contents of the tables are safe: what does not fit is an answer.
  * Nothing is kept between calls, nothing is allocated and no system call is made, so calls over different tables may run at the same time. */
 #ifndef MAHRULLIS_H

@@ -91,7 +91,7 @@ impl Gate {
 
     /// RUN: checks a text and runs it within the limits. A run that is stopped has a report too: the numbers put out so far, and where it stopped.
     ///
-    /// A run at depth 200 was seen to take up to 370 KB of the thread's stack (measured, not proved); Rust's own threads have 2 MB.
+    /// A run at depth 200 was seen to take up to 520 KB of the thread's stack (measured, not proved); Rust's own threads have 2 MB.
     pub fn run(&mut self, text: &[u8], limits: Limits) -> Result<Report<'_>, Refusal> {
         let mut report = [0; raw::REPORT_ENTRIES];
         let (common, running) = self.lend();

@@ -170,7 +170,7 @@ fn gates_in_threads() {
     }
 }
 
-/// The deepest runs of each kind fit in half a megabyte of stack: an overflow would end the process.
+/// The deepest runs of each kind fit in three quarters of a megabyte of stack: an overflow would end the process.
 #[test]
 fn stack_of_the_deepest_runs() {
     let deepest = || {
@@ -191,5 +191,5 @@ fn stack_of_the_deepest_runs() {
             assert!(matches!(end, End::Stopped { stop: Stop::Depth, .. }), "{text}: {end}");
         }
     };
-    thread::Builder::new().stack_size(512 * 1024).spawn(deepest).unwrap().join().unwrap();
+    thread::Builder::new().stack_size(768 * 1024).spawn(deepest).unwrap().join().unwrap();
 }
