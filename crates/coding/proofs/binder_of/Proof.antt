@@ -1,3 +1,4 @@
+-- Written by tools/prove from Proof.tmpl.
 use native.Mathlib.Numerals.{add-one}
 use borrow.Author.Needs.{needs}
 use borrow.Author.Tests.{eq-eqb, ne-eqb, lt-ltb, le-ltb}

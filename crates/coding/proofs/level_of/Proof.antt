@@ -1,3 +1,4 @@
+-- Written by tools/prove from Proof.tmpl.
 -- `coding::level_of` meets its contract: what is left of the stack has the same answer as the whole.
 use Prim.Native.Nat.{_≤_}
 use mathlib.Core.Path.{_≡_, refl, _∙_}

@@ -1,3 +1,4 @@
+-- Written by tools/prove from Proof.tmpl.
 use borrow.Author.Needs.{needs}
 use Rattle.language.specs.Words.{nameAt}
 use Rattle.machine.specs.Program.{treeIn}

@@ -1,3 +1,4 @@
+-- Written by tools/prove from Proof.tmpl.
 use borrow.Author.Needs.{needs}
 use Rattle.coding.specs.Coding.{script}
 use Rattle.coding.proofs.Numbers.{code-number, code-name, code-application, code-none}

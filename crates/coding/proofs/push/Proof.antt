@@ -1,3 +1,4 @@
+-- Written by tools/prove from Proof.tmpl.
 use borrow.Author.Needs.{needs}
 use Rattle.coding.proofs.Stack.{no-push, one-push}
 use Rattle.coding.proofs.push.Statement.{statement}
