@@ -1,4 +1,3 @@
--- Written by tools/prove from Proof.tmpl.
 use native.Mathlib.Omega.{arith}
 use borrow.Author.Needs.{needs}
 use Rattle.coding.proofs.Rows.{small-first, too-short, all-coded}
