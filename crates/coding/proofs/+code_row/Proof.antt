@@ -1,4 +1,3 @@
--- Written by tools/prove from Proof.tmpl.
 -- `coding::code_row` meets its contract, by induction over the codes that are left: what is left of the row is written as the whole row is.
 use Prim.Native.Nat.{ℕ, _-_, _<_}
 use native.Mathlib.Omega.{arith}
