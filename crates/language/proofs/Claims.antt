@@ -16,7 +16,7 @@ use Rattle.language.specs.Typing.{Typable}
 use Rattle.language.specs.Rules.{stop, no-rule, Outcome, ok, halt, bind, need, within, level, run}
 use Rattle.language.specs.Outcome.{end-of}
 use Rattle.language.specs.Promises.{Verdict, typed}
-use Rattle.language.specs.Claims.{AcceptedExactly, OneVerdict, OneTree, OneLevels, TreeFits, InTextOrder, TypedOrRefused, UniqueTypes, Levels128, NoRule, NeverStuck, EndsByTheTable, SameUnderLargerLimits, NumbersBegin, CountsInLimits, LimitIsUsedUp, WhileRule, NoRuleIsReached, OneCheck, OneRun, DeskHolds, NothingGivenBack, CheckCarriesNothingOver, RunCarriesNothingOver, RoundsDown}
+use Rattle.language.specs.Claims.{AcceptedExactly, OneVerdict, OneTree, OneLevels, TreeFits, InTextOrder, TypedOrRefused, UniqueTypes, Levels128, NoRule, NeverStuck, EndsByTheTable, SameUnderLargerLimits, NumbersBegin, CountsInLimits, LimitIsUsedUp, WhileRule, NoRuleIsReached, OneCheck, OneRun, DeskHolds, NothingGivenBack, CheckCarriesNothingOver, RunCarriesNothingOver, RoundsDown, AllocIsFresh, BlocksApart, StoresGoToCells}
 use Rattle.language.proofs.reading.Shown.{one-tree, levels-once, room, in-text-order}
 use Rattle.language.proofs.typing.Unique.{unique-types}
 use Rattle.language.proofs.typing.Judged.{one-verdict}
@@ -28,6 +28,8 @@ use Rattle.language.proofs.running.Counts.{counts-in-limits, limit-is-u
 use Rattle.language.proofs.running.Rounds.{while-rule}
 use Rattle.language.proofs.running.Kept.{nothing-given-back}
 use Rattle.language.proofs.running.Quotients.{rounds-down}
+use Rattle.language.proofs.running.Blocks.{alloc-is-fresh, blocks-apart}
+use Rattle.language.proofs.running.Stores.{stores-go-to-cells}
 use Rattle.language.proofs.texts.Verdicts.{verdict, verdict-right, only-verdict}
 use Rattle.language.proofs.texts.Promised.{one-check, one-run}
 use Rattle.language.proofs.texts.Afresh.{check-carries-nothing-over, run-carries-nothing-over}
@@ -122,3 +124,12 @@ check-carries-nothing-over-claim = check-carries-nothing-over
 
 pub run-carries-nothing-over-claim : RunCarriesNothingOver
 run-carries-nothing-over-claim = run-carries-nothing-over
+
+pub alloc-is-fresh-claim : AllocIsFresh
+alloc-is-fresh-claim = alloc-is-fresh
+
+pub blocks-apart-claim : BlocksApart
+blocks-apart-claim = blocks-apart
+
+pub stores-go-to-cells-claim : StoresGoToCells
+stores-go-to-cells-claim = stores-go-to-cells

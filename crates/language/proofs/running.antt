@@ -5,3 +5,5 @@ pub mod Counts
 pub mod Rounds
 pub mod Kept
 pub mod Quotients
+pub mod Blocks
+pub mod Stores

@@ -4,3 +4,4 @@ pub mod Afresh
 pub mod Tables
 pub mod Desk
 pub mod Worked
+pub mod Blocks

@@ -7,8 +7,8 @@ pub data Refusal : Type 0 where  -- a text or a call is refused (1 to 10)
 pub data LimitStop : Type 0 where  -- a run is stopped by a limit (20 to 24)
   FUEL DEPTH CELLS BINDINGS OUTPUT : LimitStop
 
-pub data ErrorStop : Type 0 where  -- a run is stopped by an error of the script (25 to 27)
-  RANGE ZERO UNSET : ErrorStop
+pub data ErrorStop : Type 0 where  -- a run is stopped by an error of the script (25 to 29)
+  RANGE ZERO UNSET SIZE INDEX : ErrorStop
 
 pub data Stop : Type 0 where
   limit : LimitStop → Stop
@@ -28,7 +28,18 @@ refusal-number = elim [ LENGTH ↦ 1 | LIMIT ↦ 2 | TABLE ↦ 3 | BYTE ↦ 4 | 
 
 abbrev pub stop-number : Stop → ℕ
 stop-number =
-    elim [ limit FUEL ↦ 20 | limit DEPTH ↦ 21 | limit CELLS ↦ 22 | limit BINDINGS ↦ 23 | limit OUTPUT ↦ 24 | error RANGE ↦ 25 | error ZERO ↦ 26 | error UNSET ↦ 27 ]
+    elim [
+      | limit FUEL ↦ 20
+      | limit DEPTH ↦ 21
+      | limit CELLS ↦ 22
+      | limit BINDINGS ↦ 23
+      | limit OUTPUT ↦ 24
+      | error RANGE ↦ 25
+      | error ZERO ↦ 26
+      | error UNSET ↦ 27
+      | error SIZE ↦ 28
+      | error INDEX ↦ 29
+    ]
 
 abbrev pub number-of : Answer → ℕ
 number-of = elim [ done ↦ 0 | refused r p ↦ refusal-number r | stopped w p ↦ stop-number w ]

@@ -1,7 +1,7 @@
 -- What is claimed of the language, each claim as a type with a sentence; proofs/Claims.antt proves each.
-use Rattle.language.specs.Library.{_≡_, _↔_, _⊎_, ℕ, zero, suc, _≤_, ℤ, true, List, [], _∷_, _++_, map, length, some, _<_, pos, natAbs, _+ℤ_, _*ℤ_, nonNeg}
+use Rattle.language.specs.Library.{_≡_, _↔_, _⊎_, ℕ, zero, suc, _+_, _≤_, ℤ, true, List, [], _∷_, _++_, map, length, some, _<_, pos, natAbs, _+ℤ_, _*ℤ_, nonNeg}
 use lib.ListN.{take}
-use Rattle.language.specs.Syntax.{at, Expr, name, ExprP, last, Def, Stat, echo, while, Block, block}
+use Rattle.language.specs.Syntax.{Name, at, TypeTree, Expr, num, name, if-expr, and, or, app, abs, alloc, nth-expr, len, vset, ExprP, val, adr, last, Def, var, Stat, echo, set, if-stat, while, call, Block, block}
 use Rattle.language.specs.Bytes.{bytesOf}
 use Rattle.language.specs.Answers.{Refusal, FUEL, DEPTH, CELLS, BINDINGS, OUTPUT, Stop, limit, error, done, stopped, Result, fine}
 use Rattle.language.specs.Numbers.{quotient}
@@ -10,11 +10,11 @@ use Rattle.language.specs.Grammar.{BLOCK, Reads}
 use Rattle.language.specs.Table.{none, shapeBlock, Node, node, enc, table}
 use Rattle.language.specs.Levels.{levels, deepest}
 use Rattle.language.specs.Reading.{Opens, Within, Reading}
-use Rattle.language.specs.Types.{Ty, base, fn, Tys, tnil, tcons, Ctx}
+use Rattle.language.specs.Types.{Ty, base, fn, vec-of, Tys, tnil, tcons, Ctx}
 use Rattle.language.specs.Typing.{HasE, Typable}
-use Rattle.language.specs.Order.{JudgedNode, expr-node, adr-node, param-node, single-node, def-node, stat-node, nodes-block, TypeRefused}
+use Rattle.language.specs.Order.{JudgedNode, expr-node, adr-node, vec-node, param-node, single-node, def-node, stat-node, nodes-block, TypeRefused}
 use Rattle.language.specs.Limits.{Limits, greatest-limits, _⊑_, Admitted}
-use Rattle.language.specs.Rules.{Env, State, stop, no-rule, Outcome, ok, halt, bind, need, branch, enter, as-truth, in-block, level, run}
+use Rattle.language.specs.Rules.{Val, inA, inB, Env, bound, State, stop, no-rule, Outcome, ok, halt, bind, need, branch, enter, look, nth, as-truth, Level, in-block, alloc-rule, expr-rule, arg-rule, def-rule, stat-rule, level, run}
 use Rattle.language.specs.Outcome.{state-of, end-of}
 use Rattle.language.specs.Promises.{Verdict, text-bytes, tree-words, Lent, tree-table, large-enough, Checked, Check, Ran, all-large, Run}
 use Rattle.language.specs.Desk.{AllHold, desk}
@@ -74,6 +74,7 @@ abbrev mutual
   pub TyFits : Ty → ℕ → Type 0
   TyFits (base b) n = Unit {0}
   TyFits (fn ts t) n = Opened n λ m. TysFit ts m × TyFits t m
+  TyFits (vec-of t) n = Opened n λ m. TyFits t m
 
   pub TysFit : Tys → ℕ → Type 0
   TysFit tnil n = Unit {0}
@@ -88,6 +89,7 @@ pub data AllNodes (P : JudgedNode → Type 0) : List JudgedNode → Type 0 where
 abbrev pub Comparable : JudgedNode → Type 0
 Comparable (expr-node Γ e) = (t : Ty) → HasE Γ e t → TyFits t 128
 Comparable (adr-node Γ p x) = Unit {0}
+Comparable (vec-node p t) = Unit {0}
 Comparable (param-node a) = Unit {0}
 Comparable (single-node xs a) = Unit {0}
 Comparable (def-node Γ d) = Unit {0}
@@ -119,12 +121,12 @@ pub record InLimits (L : Limits) (s : State) : Type 0 where
   pub cells-in : length (s .cells) ≤ L .cells
   pub numbers-in : length (s .numbers) ≤ L .output
 
--- where FUEL, CELLS or OUTPUT stops a run, that limit is used up (what DEPTH and BINDINGS lack stands in no count of the state)
+-- where FUEL or OUTPUT stops a run, that limit is used up (what DEPTH, CELLS and BINDINGS lack stands in no count of the state)
 abbrev pub UsedUp : Limits → Outcome (Unit {0}) → Type 0
 UsedUp L (ok a s) = Unit {0}
 UsedUp L (halt (stop (limit FUEL)) p s) = s .units ≡ L .fuel
 UsedUp L (halt (stop (limit DEPTH)) p s) = Unit {0}
-UsedUp L (halt (stop (limit CELLS)) p s) = length (s .cells) ≡ L .cells
+UsedUp L (halt (stop (limit CELLS)) p s) = Unit {0}
 UsedUp L (halt (stop (limit BINDINGS)) p s) = Unit {0}
 UsedUp L (halt (stop (limit OUTPUT)) p s) = length (s .numbers) ≡ L .output
 UsedUp L (halt (stop (error x)) p s) = Unit {0}
@@ -134,7 +136,7 @@ UsedUp L (halt no-rule p s) = Unit {0}
 abbrev pub NeverStuck : Type 0
 NeverStuck = (s : List ℕ) (b : Block) → Verdict s (fine b) → (L : Limits) → ¬ NoRule (run L b)
 
--- An accepted text's run ends as done or by one of the eight stops of document 01.
+-- An accepted text's run ends as done or by one of the ten stops of document 01 and request 5.
 abbrev pub EndsByTheTable : Type 0
 EndsByTheTable = (s : List ℕ) (b : Block) → Verdict s (fine b) → (L : Limits) →
     (end-of (run L b) ≡ some done) ⊎ ((w : Stop) × (p : ℕ) × (end-of (run L b) ≡ some (stopped w p)))
@@ -151,7 +153,7 @@ NumbersBegin = (L L′ : Limits) → L ⊑ L′ → (b : Block) → (more : List
 abbrev pub CountsInLimits : Type 0
 CountsInLimits = (L : Limits) (b : Block) → InLimits L (state-of (run L b))
 
--- FUEL, CELLS and OUTPUT are given only where the limit is used up: so the count that makes WHILE structural never ends a run.
+-- FUEL and OUTPUT are given only where the limit is used up: so the count that makes WHILE structural never ends a run.
 abbrev pub LimitIsUsedUp : Type 0
 LimitIsUsedUp = (L : Limits) (b : Block) → UsedUp L (run L b)
 
@@ -228,3 +230,78 @@ RunCarriesNothingOver = (L : Limits) (text tree tree′ : List ℕ) (works works
     (r .says ≡ r′ .says) ×
     (take (r .says .numbers) (r .output) ≡ take (r′ .says .numbers) (r′ .output)) ×
     (length text ≤ text-bytes → Admitted L → take tree-words (r .tree) ≡ take tree-words (r′ .tree))
+
+-- ---- whose cells are whose, and where stores go
+
+-- what an alloc that is evaluated in the state s comes to, if it ends: a block of k cells from the cell a on, all behind those taken in s, and the last that are taken then
+abbrev pub FreshBlock : State → Outcome Val → Type 0
+FreshBlock s (ok v t) = (a k : ℕ) × (v ≡ inB a k) × (length (s .cells) ≤ a) × (a + k ≡ length (t .cells))
+FreshBlock s (halt w p t) = Unit {0}
+
+-- An alloc answers a block, and its cells are fresh: none was taken before it, and all are when it ends.
+abbrev pub AllocIsFresh : Type 0
+AllocIsFresh = (L : Limits) (d p : ℕ) (t : TypeTree) (e : Expr) (ρ : Env) (s : State) → FreshBlock s (level L d .expr (alloc p t e) ρ s)
+
+-- k cells from the cell a on are taken in the state s, and t is the state then: by an alloc, once its size is known, or by a VAR
+pub data Takes (L : Limits) (s : State) (a : ℕ) : (k : ℕ) → (t : State) → Type 0 where
+  by-alloc : {k : ℕ} {t : State} (p : ℕ) (n : ℤ) → alloc-rule L p n s ≡ ok (inB a k) t → Takes L s a k t
+  by-var : {t : State} (r : Level) (p q : ℕ) (x : Name) (y : TypeTree) (ρ : Env) → def-rule L r (var p (at q x) y) ρ s ≡ ok (bound x (inA a) ρ) t → Takes L s a 1 t
+
+-- Two blocks of different allocs never share a cell, nor do a block and a variable, or two variables: of two that take cells in one run, one does so in a state t in which
+-- all that the other took is taken still (NothingGivenBack), and it takes none of that.
+abbrev pub BlocksApart : Type 0
+BlocksApart = (L : Limits) (s s′ t t′ : State) (a k b l : ℕ) → Takes L s a k s′ → Stays s′ t → Takes L t b l t′ →
+    (i j : ℕ) → i < k → j < l → ¬ (a + i ≡ b + j)
+
+-- the cells that were taken in s hold in t what they held, but for those named
+abbrev pub OthersHold : (those : ℕ → Type 0) → State → State → Type 0
+OthersHold those s t = (c : ℕ) → c < length (s .cells) → ¬ those c → nth (t .cells) c ≡ nth (s .cells) c
+
+abbrev pub nowhere : ℕ → Type 0  -- no cell
+nowhere c = ⊥
+
+-- evaluators that store nothing
+pub record StoresNothing (r : Level) : Type 0 where
+  pub expr-stores : (e : Expr) (ρ : Env) (s : State) → OthersHold nowhere s (state-of (r .expr e ρ s))
+  pub arg-stores : (a : ExprP) (ρ : Env) (s : State) → OthersHold nowhere s (state-of (r .arg a ρ s))
+  pub def-stores : (d : Def) (ρ : Env) (s : State) → OthersHold nowhere s (state-of (r .def d ρ s))
+  pub stat-stores : (c : Stat) (ρ : Env) (s : State) → OthersHold nowhere s (state-of (r .stat c ρ s))
+
+-- the cells of the block that an expression comes to
+abbrev pub InBlock : Outcome Val → ℕ → Type 0
+InBlock o c = (a k : ℕ) × (t : State) × (o ≡ ok (inB a k) t) × (a ≤ c) × (c < a + k)
+
+-- the cells that an expression's own rule may store to: vset's, in the block that its first part is
+abbrev pub ExprStores : Level → Expr → Env → State → ℕ → Type 0
+ExprStores r (num p n) ρ s = nowhere
+ExprStores r (name x) ρ s = nowhere
+ExprStores r (if-expr p a b d) ρ s = nowhere
+ExprStores r (and p a b) ρ s = nowhere
+ExprStores r (or p a b) ρ s = nowhere
+ExprStores r (app p f es) ρ s = nowhere
+ExprStores r (abs p ps e) ρ s = nowhere
+ExprStores r (alloc p t e) ρ s = nowhere
+ExprStores r (nth-expr p a b) ρ s = nowhere
+ExprStores r (len p a) ρ s = nowhere
+ExprStores r (vset p a b d) ρ s = InBlock (r .expr a ρ s)
+
+abbrev pub ArgStores : Level → ExprP → Env → State → ℕ → Type 0
+ArgStores r (val e) ρ s = ExprStores r e ρ s
+ArgStores r (adr p x) ρ s = nowhere
+
+-- the cells that a statement's own rule may store to: SET's, the variable's that its name stands for
+abbrev pub StatStores : Stat → Env → ℕ → Type 0
+StatStores (echo p e) ρ = nowhere
+StatStores (set p (at q x) e) ρ = λ c. look ρ x ≡ some (inA c)
+StatStores (if-stat p e a b) ρ = nowhere
+StatStores (while p e b) ρ = nowhere
+StatStores (call p x as′) ρ = nowhere
+
+-- Stores go to a variable's cell or a block's: of a rule whose parts store nothing, SET stores to its variable's cell, vset to a cell of its block, and every other rule leaves in each cell
+-- that is taken what was there. (That SET and vset never miss a taken cell is NeverStuck.)
+abbrev pub StoresGoToCells : Type 0
+StoresGoToCells = (L : Limits) (r : Level) → StoresNothing r → (ρ : Env) (s : State) →
+    ((e : Expr) → OthersHold (ExprStores r e ρ s) s (state-of (expr-rule L r e ρ s))) ×
+    ((a : ExprP) → OthersHold (ArgStores r a ρ s) s (state-of (arg-rule L r a ρ s))) ×
+    ((d : Def) → OthersHold nowhere s (state-of (def-rule L r d ρ s))) ×
+    ((c : Stat) → OthersHold (StatStores c ρ) s (state-of (stat-rule L r c ρ s)))

@@ -1,8 +1,8 @@
--- The grammar of APS1a, 000 section 3.1: `Reads k e ts r` says that the words from the front of `ts` up to where `r` begins are the tree `e`,
+-- The grammar of APS1a, 000 section 3.1, with the blocks of cells of APS2 (request 5): `Reads k e ts r` says that the words from the front of `ts` up to where `r` begins are the tree `e`,
 -- by the lines for `k`. One constructor for each line, in the source's order of words.
 use Rattle.language.specs.Library.{ℕ, ℤ, List, [], _∷_, _++_}
-use Rattle.language.specs.Syntax.{Ident, TypeTree, bool, int, arrow, TypeTrees, one-type, more-types, Arg, arg, ArgP, val-arg, var-arg, Expr, num, name, if-expr, and, or, app, abs, Exprs, one-expr, more-exprs, ExprP, val, adr, Cmds, last, def-then, stat-then, Def, const, fun, fun-rec, var, proc, proc-rec, Stat, echo, set, if-stat, while, call, Block, block}
-use Rattle.language.specs.Words.{kLbr, kRbr, kLpar, kRpar, kSemi, kColon, kComma, kStar, kArrow, kCONST, kFUN, kREC, kVAR, kPROC, kECHO, kSET, kIF, kWHILE, kCALL, kif, kand, kor, kbool, kint, kvar, kadr, Word, mark, number, named}
+use Rattle.language.specs.Syntax.{Ident, TypeTree, bool, int, arrow, vec, TypeTrees, one-type, more-types, Arg, arg, ArgP, val-arg, var-arg, Expr, num, name, if-expr, and, or, app, abs, alloc, nth-expr, len, vset, Exprs, one-expr, more-exprs, ExprP, val, adr, Cmds, last, def-then, stat-then, Def, const, fun, fun-rec, var, proc, proc-rec, Stat, echo, set, if-stat, while, call, Block, block}
+use Rattle.language.specs.Words.{kLbr, kRbr, kLpar, kRpar, kSemi, kColon, kComma, kStar, kArrow, kCONST, kFUN, kREC, kVAR, kPROC, kECHO, kSET, kIF, kWHILE, kCALL, kif, kand, kor, kbool, kint, kvar, kadr, kvec, kalloc, knth, klen, kvset, Word, mark, number, named}
 
 -- The left sides of the grammar, and the trees of each.
 pub data Sort : Type 0 where
@@ -45,11 +45,12 @@ pub data Reads : (k : Sort) → TreeOf k → List Word → List Word → Type 0 
       → Reads DEF (proc p x a b) (mark kPROC p ∷ named x ∷ mark kLbr i ∷ ts) r
   r-proc-rec : {p i j k : ℕ} {x : Ident} {a : List ArgP} {b : Block} {ts us r : List Word} → Reads ARGSP a ts (mark kRbr k ∷ us) → Reads BLOCK b us r
       → Reads DEF (proc-rec p x a b) (mark kPROC p ∷ mark kREC i ∷ named x ∷ mark kLbr j ∷ ts) r
-  -- TYPE ::= bool | int | ( TYPES -> TYPE )
+  -- TYPE ::= bool | int | ( TYPES -> TYPE ) | ( vec TYPE )
   r-bool : {p : ℕ} {r : List Word} → Reads TYPE (bool p) (mark kbool p ∷ r) r
   r-int : {p : ℕ} {r : List Word} → Reads TYPE (int p) (mark kint p ∷ r) r
   r-arrow : {p i j : ℕ} {a : TypeTrees} {t : TypeTree} {ts us r : List Word} → Reads TYPES a ts (mark kArrow i ∷ us) → Reads TYPE t us (mark kRpar j ∷ r)
       → Reads TYPE (arrow p a t) (mark kLpar p ∷ ts) r
+  r-vec : {p i j : ℕ} {t : TypeTree} {ts r : List Word} → Reads TYPE t ts (mark kRpar j ∷ r) → Reads TYPE (vec p t) (mark kLpar p ∷ mark kvec i ∷ ts) r
   -- TYPES ::= TYPE | TYPE * TYPES
   r-one-type : {t : TypeTree} {ts r : List Word} → Reads TYPE t ts r → Reads TYPES (one-type t) ts r
   r-more-types : {i : ℕ} {t : TypeTree} {a : TypeTrees} {ts us r : List Word} → Reads TYPE t ts (mark kStar i ∷ us) → Reads TYPES a us r
@@ -83,6 +84,7 @@ pub data Reads : (k : Sort) → TreeOf k → List Word → List Word → Type 0 
   r-val : {e : Expr} {ts r : List Word} → Reads EXPR e ts r → Reads EXPRP (val e) ts r
   r-adr : {p i j : ℕ} {x : Ident} {r : List Word} → Reads EXPRP (adr p x) (mark kLpar p ∷ mark kadr i ∷ named x ∷ mark kRpar j ∷ r) r
   -- EXPR ::= num | ident | ( if EXPR EXPR EXPR ) | ( and EXPR EXPR ) | ( or EXPR EXPR ) | ( EXPR EXPRS ) | [ ARGS ] EXPR
+  --        | ( alloc TYPE EXPR ) | ( nth EXPR EXPR ) | ( len EXPR ) | ( vset EXPR EXPR EXPR )
   r-num : {p : ℕ} {z : ℤ} {r : List Word} → Reads EXPR (num p z) (number p z ∷ r) r
   r-name : {x : Ident} {r : List Word} → Reads EXPR (name x) (named x ∷ r) r
   r-if-expr : {p i j : ℕ} {e f g : Expr} {ts us vs r : List Word} → Reads EXPR e ts us → Reads EXPR f us vs → Reads EXPR g vs (mark kRpar j ∷ r)
@@ -95,6 +97,13 @@ pub data Reads : (k : Sort) → TreeOf k → List Word → List Word → Type 0 
       → Reads EXPR (app p e a) (mark kLpar p ∷ ts) r
   r-abs : {p i : ℕ} {a : List Arg} {e : Expr} {ts us r : List Word} → Reads ARGS a ts (mark kRbr i ∷ us) → Reads EXPR e us r
       → Reads EXPR (abs p a e) (mark kLbr p ∷ ts) r
+  r-alloc : {p i j : ℕ} {t : TypeTree} {e : Expr} {ts us r : List Word} → Reads TYPE t ts us → Reads EXPR e us (mark kRpar j ∷ r)
+      → Reads EXPR (alloc p t e) (mark kLpar p ∷ mark kalloc i ∷ ts) r
+  r-nth : {p i j : ℕ} {e f : Expr} {ts us r : List Word} → Reads EXPR e ts us → Reads EXPR f us (mark kRpar j ∷ r)
+      → Reads EXPR (nth-expr p e f) (mark kLpar p ∷ mark knth i ∷ ts) r
+  r-len : {p i j : ℕ} {e : Expr} {ts r : List Word} → Reads EXPR e ts (mark kRpar j ∷ r) → Reads EXPR (len p e) (mark kLpar p ∷ mark klen i ∷ ts) r
+  r-vset : {p i j : ℕ} {e f g : Expr} {ts us vs r : List Word} → Reads EXPR e ts us → Reads EXPR f us vs → Reads EXPR g vs (mark kRpar j ∷ r)
+      → Reads EXPR (vset p e f g) (mark kLpar p ∷ mark kvset i ∷ ts) r
   -- EXPRS ::= EXPR | EXPR EXPRS
   r-one-expr : {e : Expr} {ts r : List Word} → Reads EXPR e ts r → Reads EXPRS (one-expr e) ts r
   r-more-exprs : {e : Expr} {a : Exprs} {ts us r : List Word} → Reads EXPR e ts us → Reads EXPRS a us r → Reads EXPRS (more-exprs e a) ts r

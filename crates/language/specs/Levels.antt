@@ -1,14 +1,15 @@
--- Levels, document 01: a block, a parenthesised expression, an `(adr x)`, an abstraction (to the end of its body) and a function type each open
--- one level at their first word; parameter lists open none.
+-- Levels, document 01: a block, a parenthesised expression, an `(adr x)`, an abstraction (to the end of its body), a function type and a vec type
+-- (request 5) each open one level at their first word; parameter lists open none.
 -- `levels e d l`: the level that each word of the tree `e` opens, 0 for none, in text order, where `d` levels are open; before those in `l`.
 use Rattle.language.specs.Library.{ℕ, suc, List, [], _∷_}
-use Rattle.language.specs.Syntax.{TypeTree, bool, int, arrow, TypeTrees, one-type, more-types, Arg, arg, ArgP, val-arg, var-arg, Expr, num, name, if-expr, and, or, app, abs, Exprs, one-expr, more-exprs, ExprP, val, adr, Cmds, last, def-then, stat-then, Def, const, fun, fun-rec, var, proc, proc-rec, Stat, echo, set, if-stat, while, call, Block, block}
+use Rattle.language.specs.Syntax.{TypeTree, bool, int, arrow, vec, TypeTrees, one-type, more-types, Arg, arg, ArgP, val-arg, var-arg, Expr, num, name, if-expr, and, or, app, abs, alloc, nth-expr, len, vset, Exprs, one-expr, more-exprs, ExprP, val, adr, Cmds, last, def-then, stat-then, Def, const, fun, fun-rec, var, proc, proc-rec, Stat, echo, set, if-stat, while, call, Block, block}
 
 unfoldable mutual
   pub levelsType : TypeTree → ℕ → List ℕ → List ℕ
   levelsType (bool p) d l = 0 ∷ l
   levelsType (int p) d l = 0 ∷ l
   levelsType (arrow p a t) d l = suc d ∷ levelsTypes a (suc d) (0 ∷ levelsType t (suc d) (0 ∷ l))
+  levelsType (vec p t) d l = suc d ∷ 0 ∷ levelsType t (suc d) (0 ∷ l)
 
   pub levelsTypes : TypeTrees → ℕ → List ℕ → List ℕ
   levelsTypes (one-type t) d l = levelsType t d l
@@ -38,6 +39,10 @@ unfoldable mutual
   levelsExpr (or p e f) d l = suc d ∷ 0 ∷ levelsExpr e (suc d) (levelsExpr f (suc d) (0 ∷ l))
   levelsExpr (app p e a) d l = suc d ∷ levelsExpr e (suc d) (levelsExprs a (suc d) (0 ∷ l))
   levelsExpr (abs p a e) d l = suc d ∷ levelsArgs a (suc d) (levelsExpr e (suc d) l)
+  levelsExpr (alloc p t e) d l = suc d ∷ 0 ∷ levelsType t (suc d) (levelsExpr e (suc d) (0 ∷ l))
+  levelsExpr (nth-expr p e f) d l = suc d ∷ 0 ∷ levelsExpr e (suc d) (levelsExpr f (suc d) (0 ∷ l))
+  levelsExpr (len p e) d l = suc d ∷ 0 ∷ levelsExpr e (suc d) (0 ∷ l)
+  levelsExpr (vset p e f g) d l = suc d ∷ 0 ∷ levelsExpr e (suc d) (levelsExpr f (suc d) (levelsExpr g (suc d) (0 ∷ l)))
 
   pub levelsExprs : Exprs → ℕ → List ℕ → List ℕ
   levelsExprs (one-expr e) d l = levelsExpr e d l

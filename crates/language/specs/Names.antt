@@ -1,6 +1,6 @@
 -- What a name is by itself. The nine names of the language are ordinary names (000, section 3.1): one function tells them from the others.
 use Rattle.language.specs.Library.{Bool, true, false, cond, List, [], _∷_, Option, none, some}
-use Rattle.language.specs.Syntax.{Name, at, Expr, num, name, if-expr, and, or, app, abs}
+use Rattle.language.specs.Syntax.{Name, at, Expr, num, name, if-expr, and, or, app, abs, alloc, nth-expr, len, vset}
 use Rattle.language.specs.Bytes.{bytesOf, same-bytes}
 
 pub data Op : Type 0 where  -- the seven operators
@@ -37,4 +37,16 @@ operator-of = elim [ literal b ↦ none | operator o ↦ some o | free ↦ none 
 
 abbrev pub head-operator : Expr → Option Op  -- the operator that stands as the head of an application, if one does
 head-operator =
-    elim [ num p n ↦ none | name (at p x) ↦ operator-of (meaning x) | if-expr p a b c ↦ none | and p a b ↦ none | or p a b ↦ none | app p f g ↦ none | abs p a e ↦ none ]
+    elim [
+      | num p n ↦ none
+      | name (at p x) ↦ operator-of (meaning x)
+      | if-expr p a b c ↦ none
+      | and p a b ↦ none
+      | or p a b ↦ none
+      | app p f g ↦ none
+      | abs p a e ↦ none
+      | alloc p t e ↦ none
+      | nth-expr p a b ↦ none
+      | len p a ↦ none
+      | vset p a b c ↦ none
+    ]

@@ -1,12 +1,12 @@
 -- The byte place of each node: its first word's; a parameter's is its name's.
 use Rattle.language.specs.Library.{ℕ}
-use Rattle.language.specs.Syntax.{Ident, at, ArgP, val-arg, var-arg, Expr, num, name, if-expr, and, or, app, abs, ExprP, val, adr, Def, const, fun, fun-rec, var, proc, proc-rec, Stat, echo, set, if-stat, while, call}
+use Rattle.language.specs.Syntax.{Ident, at, ArgP, val-arg, var-arg, Expr, num, name, if-expr, and, or, app, abs, alloc, nth-expr, len, vset, ExprP, val, adr, Def, const, fun, fun-rec, var, proc, proc-rec, Stat, echo, set, if-stat, while, call}
 
 abbrev pub place-ident : Ident → ℕ
 place-ident (at p x) = p
 
 abbrev pub place-expr : Expr → ℕ
-place-expr = elim [ num p n ↦ p | name (at p x) ↦ p | if-expr p a b c ↦ p | and p a b ↦ p | or p a b ↦ p | app p f es ↦ p | abs p ps e ↦ p ]
+place-expr = elim [ num p n ↦ p | name (at p x) ↦ p | if-expr p a b c ↦ p | and p a b ↦ p | or p a b ↦ p | app p f es ↦ p | abs p ps e ↦ p | alloc p t e ↦ p | nth-expr p a b ↦ p | len p a ↦ p | vset p a b c ↦ p ]
 
 abbrev pub place-arg : ExprP → ℕ
 place-arg = elim [ val e ↦ place-expr e | adr p x ↦ p ]

@@ -121,6 +121,6 @@ module _ (L : Limits) (text tree : List ℕ) (works stores : List Lent) (output 
     -- 4 to 10: bindings, cells and output are untouched
     not-run : {r : Refusal} {p : ℕ} → length text ≤ text-bytes → Admitted L → all-large ≡ true → Verdict text (refuse r p) →
         Run (record { says = told (refused r p) start; tree = zeroed tree-words tree; works = cleared works; stores = untouched stores; output = output })
-    -- 0 and 20 to 27: the end and the counts of the rules
+    -- 0 and 20 to 29: the end and the counts of the rules
     ran : {b : Block} {a : Answer} → length text ≤ text-bytes → Admitted L → all-large ≡ true → Verdict text (fine b) → end-of (run L b) ≡ some a →
         Run (ran-with b a (state-of (run L b)))

@@ -1,10 +1,10 @@
--- The evaluation rules, under 000's names (section 3.3), executable. They are written over any tree and read no types.
+-- The evaluation rules, under 000's names (section 3.3) and, for blocks of cells, 004's (5.3.2), executable. They are written over any tree and read no types.
 -- The state counts what is taken; the limits are a parameter. A state that no rule fits is an outcome of its own, `no-rule`.
-use Rattle.language.specs.Library.{ℕ, zero, suc, _+_, ℤ, pos, Bool, true, false, cond, leb, ltb, List, [], _∷_, _++_, length, Option, none, some}
-use Rattle.language.specs.Syntax.{Name, at, Expr, num, name, if-expr, and, or, app, abs, Exprs, one-expr, more-exprs, ExprP, val, adr, Cmds, last, def-then, stat-then, Def, const, fun, fun-rec, var, proc, proc-rec, Stat, echo, set, if-stat, while, call, Block, block}
+use Rattle.language.specs.Library.{ℕ, zero, suc, _+_, ℤ, pos, negsuc, Bool, true, false, cond, leb, ltb, List, [], _∷_, _++_, length, replicate, Option, none, some}
+use Rattle.language.specs.Syntax.{Name, at, Expr, num, name, if-expr, and, or, app, abs, alloc, nth-expr, len, vset, Exprs, one-expr, more-exprs, ExprP, val, adr, Cmds, last, def-then, stat-then, Def, const, fun, fun-rec, var, proc, proc-rec, Stat, echo, set, if-stat, while, call, Block, block}
 use Rattle.language.specs.Bytes.{same-bytes}
 use Rattle.language.specs.Places.{place-expr, place-arg, place-def, place-stat}
-use Rattle.language.specs.Answers.{LimitStop, FUEL, DEPTH, CELLS, BINDINGS, OUTPUT, UNSET, Stop, limit, error}
+use Rattle.language.specs.Answers.{LimitStop, FUEL, DEPTH, CELLS, BINDINGS, OUTPUT, ErrorStop, UNSET, SIZE, INDEX, Stop, limit, error}
 use Rattle.language.specs.Names.{Op, Meaning, literal, operator, free, meaning, unless-nine, head-operator}
 use Rattle.language.specs.Numbers.{Computed, amount, fails, bit, as-bit, compute}
 use Rattle.language.specs.Types.{values, param-names}
@@ -19,6 +19,7 @@ mutual
     inP : Block → List Name → Env → Val
     inPR : Block → Name → List Name → Env → Val
     inA : ℕ → Val
+    inB : (first length : ℕ) → Val
 
   pub data Env : Type 0 where
     empty : Env
@@ -49,6 +50,10 @@ module _ {A B : Type 0} where
   unfoldable pub need : Option A → ℕ → State → (A → Outcome B) → Outcome B  -- a rule that wants a certain form: no rule fits any other
   need none p s k = halt no-rule p s
   need (some a) p s k = k a
+
+  unfoldable pub otherwise : Option A → ErrorStop → ℕ → State → (A → Outcome B) → Outcome B  -- what a script must see to: an error where it does not
+  otherwise none x p s k = halt (stop (error x)) p s
+  otherwise (some a) x p s k = k a
 
 module _ {A : Type 0} where
   unfoldable pub within : Bool → LimitStop → ℕ → State → Outcome A → Outcome A  -- a limit that must hold
@@ -108,7 +113,7 @@ store (c ∷ cs) zero v = some (some v ∷ cs)
 store (c ∷ cs) (suc a) v = behind c (store cs a v)
 
 abbrev pub as-number : Val → Option ℤ
-as-number = elim [ inZ n ↦ some n | inF e xs ρ ↦ none | inFR e f xs ρ ↦ none | inP b xs ρ ↦ none | inPR b f xs ρ ↦ none | inA a ↦ none ]
+as-number = elim [ inZ n ↦ some n | inF e xs ρ ↦ none | inFR e f xs ρ ↦ none | inP b xs ρ ↦ none | inPR b f xs ρ ↦ none | inA a ↦ none | inB a n ↦ none ]
 
 abbrev pub if-number : {A : Type 0} → Option ℤ → (ℤ → Option A) → Option A
 if-number none k = none
@@ -118,7 +123,17 @@ abbrev pub as-truth : Val → Option Bool  -- inZ(1) or inZ(0)
 as-truth v = if-number (as-number v) as-bit
 
 abbrev pub as-address : Val → Option ℕ
-as-address = elim [ inZ n ↦ none | inF e xs ρ ↦ none | inFR e f xs ρ ↦ none | inP b xs ρ ↦ none | inPR b f xs ρ ↦ none | inA a ↦ some a ]
+as-address = elim [ inZ n ↦ none | inF e xs ρ ↦ none | inFR e f xs ρ ↦ none | inP b xs ρ ↦ none | inPR b f xs ρ ↦ none | inA a ↦ some a | inB a n ↦ none ]
+
+abbrev pub as-block : Val → Option (ℕ × ℕ)  -- a block: its first cell, and how many it has
+as-block = elim [ inZ n ↦ none | inF e xs ρ ↦ none | inFR e f xs ρ ↦ none | inP b xs ρ ↦ none | inPR b f xs ρ ↦ none | inA a ↦ none | inB a n ↦ some (a, n) ]
+
+abbrev pub as-size : ℤ → Option ℕ  -- a size: none is below 0
+as-size = elim [ pos n ↦ some n | negsuc n ↦ none ]
+
+abbrev pub cell-in : ℕ × ℕ → ℤ → Option ℕ  -- a + i, the cell of a block's element: none below 0 or from the length on
+cell-in k (pos i) = cond (ltb i (k .1)) (some (k .0 + i)) none
+cell-in k (negsuc i) = none
 
 abbrev pub as-numbers : List Val → Option (List ℤ)
 as-numbers [] = some []
@@ -152,6 +167,7 @@ open-function (inFR e f xs ρ) vs = entering e (suc (length xs)) (also f (inFR e
 open-function (inP b xs ρ) vs = none
 open-function (inPR b f xs ρ) vs = none
 open-function (inA a) vs = none
+open-function (inB a n) vs = none
 
 -- a procedure that is called (CALL, CALLR): its block under the names of its definition
 abbrev pub open-procedure : Val → List Val → Option (Entered Block)
@@ -161,6 +177,7 @@ open-procedure (inFR e f xs ρ) vs = none
 open-procedure (inP b xs ρ) vs = entering b (length xs) (bind-all xs vs ρ)
 open-procedure (inPR b f xs ρ) vs = entering b (suc (length xs)) (also f (inPR b f xs ρ) (bind-all xs vs ρ))
 open-procedure (inA a) vs = none
+open-procedure (inB a n) vs = none
 
 unfoldable pub give : Computed → ℕ → State → Outcome Val
 give (amount n) p s = ok (inZ n) s
@@ -201,6 +218,7 @@ read (inFR e f xs ρ) p s = ok (inFR e f xs ρ) s
 read (inP b xs ρ) p s = ok (inP b xs ρ) s
 read (inPR b f xs ρ) p s = ok (inPR b f xs ρ) s
 read (inA a) p s = need (nth (s .cells) a) p s λ c. give-cell c p s
+read (inB a n) p s = ok (inB a n) s
 
 abbrev pub name-rule : Meaning → Option Val → ℕ → State → Outcome Val  -- (TRUE), (FALSE), (ID1), (ID2); an operator's name alone has no rule
 name-rule (literal b) o p s = ok (inZ (bit b)) s
@@ -213,6 +231,16 @@ apply-rule L r (some o) p f es ρ s = bind (exprs r es ρ s) λ vs s₁. need (o
 apply-rule L r none p f es ρ s =
     bind (r .expr f ρ s) λ v s₁. bind (exprs r es ρ s₁) λ vs s₂. need (open-function v vs) p s₂ λ c. make L (c .count) p s₂ λ s₃. r .expr (c .body) (c .env) s₃
 
+-- (ALLOC) so many fresh cells, which are unset, all or none: a size below 0 is SIZE, then too few cells are CELLS
+abbrev pub alloc-rule : Limits → ℕ → ℤ → State → Outcome Val
+alloc-rule L p n s =
+    otherwise (as-size n) SIZE p s λ k. within (leb (k + length (s .cells)) (L .cells)) CELLS p s
+    (ok (inB (length (s .cells)) k) (with-cells (s .cells ++ replicate k none) s))
+
+-- the cell of the element that a block and an index name: else INDEX
+abbrev pub element-rule : ℕ → Val → Val → State → (ℕ → Outcome Val) → Outcome Val
+element-rule p v w s k = need (as-block v) p s λ b. need (as-number w) p s λ i. otherwise (cell-in b i) INDEX p s k
+
 abbrev pub expr-rule : Limits → Level → Expr → Env → State → Outcome Val
 expr-rule L r (num p n) ρ s = ok (inZ n) s  -- (NUM)
 expr-rule L r (name (at p x)) ρ s = name-rule (meaning x) (look ρ x) p s
@@ -224,6 +252,14 @@ expr-rule L r (and p a b) ρ s = bind (r .expr a ρ s) λ v s₁. need (as-truth
 expr-rule L r (or p a b) ρ s = bind (r .expr a ρ s) λ v s₁. need (as-truth v) p s₁ λ t. branch t (ok (inZ (pos 1)) s₁) (r .expr b ρ s₁)
 expr-rule L r (app p f es) ρ s = apply-rule L r (head-operator f) p f es ρ s
 expr-rule L r (abs p ps e) ρ s = ok (inF e (param-names (values ps)) ρ) s  -- (ABS)
+expr-rule L r (alloc p t e) ρ s = bind (r .expr e ρ s) λ v s₁. need (as-number v) p s₁ λ n. alloc-rule L p n s₁
+-- (NTH), (LEN), (VSET): the parts left to right, and then what they come to; vset answers the block
+expr-rule L r (nth-expr p a b) ρ s =
+    bind (r .expr a ρ s) λ v s₁. bind (r .expr b ρ s₁) λ w s₂. element-rule p v w s₂ λ k. need (nth (s₂ .cells) k) p s₂ λ c. give-cell c p s₂
+expr-rule L r (len p a) ρ s = bind (r .expr a ρ s) λ v s₁. need (as-block v) p s₁ λ k. ok (inZ (pos (k .1))) s₁
+expr-rule L r (vset p a b c) ρ s =
+    bind (r .expr a ρ s) λ v s₁. bind (r .expr b ρ s₁) λ w s₂. bind (r .expr c ρ s₂) λ u s₃.
+    element-rule p v w s₃ λ k. need (store (s₃ .cells) k u) p s₃ λ cs. ok v (with-cells cs s₃)
 
 abbrev pub arg-rule : Limits → Level → ExprP → Env → State → Outcome Val  -- (VAL), (REF): the address, which is not read
 arg-rule L r (val e) ρ s = expr-rule L r e ρ s

@@ -1,6 +1,6 @@
 -- The tree that comes back, document 01: a tree's nodes as a forest of kinds and places, `shape`, and the words of a forest, `enc`.
 use Rattle.language.specs.Library.{ℕ, _+_, _*_, List, [], _∷_, _++_, map}
-use Rattle.language.specs.Syntax.{Ident, TypeTree, bool, int, arrow, TypeTrees, one-type, more-types, Arg, arg, ArgP, val-arg, var-arg, Expr, num, name, if-expr, and, or, app, abs, Exprs, one-expr, more-exprs, ExprP, val, adr, Cmds, last, def-then, stat-then, Def, const, fun, fun-rec, var, proc, proc-rec, Stat, echo, set, if-stat, while, call, Block, block}
+use Rattle.language.specs.Syntax.{Ident, TypeTree, bool, int, arrow, vec, TypeTrees, one-type, more-types, Arg, arg, ArgP, val-arg, var-arg, Expr, num, name, if-expr, and, or, app, abs, alloc, nth-expr, len, vset, Exprs, one-expr, more-exprs, ExprP, val, adr, Cmds, last, def-then, stat-then, Def, const, fun, fun-rec, var, proc, proc-rec, Stat, echo, set, if-stat, while, call, Block, block}
 use Rattle.language.specs.Places.{place-ident}
 
 pub data Forest : Type 0 where  -- a node without children, or with them; then the siblings that follow it
@@ -8,7 +8,7 @@ pub data Forest : Type 0 where  -- a node without children, or with them; then t
   leaf : (kind place : ℕ) → (next : Forest) → Forest
   fork : (kind place : ℕ) → (kids next : Forest) → Forest
 
--- The nodes of a tree, with those of `s` behind them: kinds are document 01's, children stand in the grammar's order.
+-- The nodes of a tree, with those of `s` behind them: kinds are document 01's and, from 26 on, request 5's; children stand in the grammar's order.
 abbrev pub ident : Ident → Forest → Forest
 ident x s = leaf 19 (place-ident x) s
 
@@ -17,6 +17,7 @@ unfoldable mutual
   shapeType (bool p) s = leaf 15 p s
   shapeType (int p) s = leaf 16 p s
   shapeType (arrow p a t) s = fork 17 p (shapeTypes a (shapeType t none)) s
+  shapeType (vec p t) s = fork 26 p (shapeType t none) s
 
   pub shapeTypes : TypeTrees → Forest → Forest
   shapeTypes (one-type t) s = shapeType t s
@@ -46,6 +47,10 @@ unfoldable mutual
   shapeExpr (or p e f) s = fork 22 p (shapeExpr e (shapeExpr f none)) s
   shapeExpr (app p e a) s = fork 23 p (shapeExpr e (shapeExprs a none)) s
   shapeExpr (abs p a e) s = fork 24 p (shapeArgs a (shapeExpr e none)) s
+  shapeExpr (alloc p t e) s = fork 27 p (shapeType t (shapeExpr e none)) s
+  shapeExpr (nth-expr p e f) s = fork 28 p (shapeExpr e (shapeExpr f none)) s
+  shapeExpr (len p e) s = fork 29 p (shapeExpr e none) s
+  shapeExpr (vset p e f g) s = fork 30 p (shapeExpr e (shapeExpr f (shapeExpr g none))) s
 
   pub shapeExprs : Exprs → Forest → Forest
   shapeExprs (one-expr e) s = shapeExpr e s

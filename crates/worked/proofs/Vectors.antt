@@ -12,7 +12,7 @@ use Rattle.language.specs.Desk.{Case, AllHold, case, ends, limited}
 use Rattle.language.proofs.reading.Machine.{set-sib, link, add-leaf, add-fork, retype, parse}
 use Rattle.language.proofs.reading.Descent.{descent}
 use Rattle.language.proofs.reading.Reader.{past, deep, read}
-use Rattle.language.proofs.typing.Judge.{andThen, judged, only, passes, single, same-type, judge-after, judge-expr, judge-arg, judge-args, judge-cmds}
+use Rattle.language.proofs.typing.Judge.{andThen, judged, only, passes, single, same-type, judge-type, judge-after, judge-expr, judge-arg, judge-args, judge-cmds}
 use Rattle.language.proofs.texts.Verdicts.{judged-tree, judged-text, verdict, outcome}
 use Rattle.language.proofs.texts.Tables.{AllComputed, computed-holds}
 
@@ -121,7 +121,7 @@ scripts =
     []
 
 scripts-computed : AllComputed scripts
-unfolding outcome verdict judged-text judged-tree read wordsFrom parse add-leaf add-fork link set-sib retype descent past deep level bind need within branch give give-cell meaning andThen judged only passes single same-type judge-after judge-expr judge-arg judge-args judge-cmds
+unfolding outcome verdict judged-text judged-tree read wordsFrom parse add-leaf add-fork link set-sib retype descent past deep level bind need within branch give give-cell meaning andThen judged only passes single same-type judge-type judge-after judge-expr judge-arg judge-args judge-cmds
 scripts-computed =
     (refl, (refl, (refl, (refl, (refl, (refl, (refl, (refl, (refl, (refl, (refl, (refl, (refl, (refl, (refl, (refl, (refl, (refl, (refl, (refl, (refl, (refl, (refl, (refl, (refl, (refl, (refl, (refl, (refl, (refl, (refl, (refl, (refl, (refl, (refl, (refl, (refl, (refl, (refl, (refl, (refl, (refl, (refl, (refl, (refl, (refl, (refl, (refl, (refl, (refl, tt))))))))))))))))))))))))))))))))))))))))))))))))))
 

@@ -6,13 +6,13 @@ use Prim.Native.Nat.{ℕ, suc}
 use lib.IntN.{ℤ}
 use lib.ListN.{length}
 use lib.Dec.{T}
-use Rattle.language.specs.Syntax.{Ident, bool, int, arrow, one-type, more-types, arg, val-arg, var-arg, num, name, if-expr, and, or, app, abs, one-expr, more-exprs, val, adr, last, def-then, stat-then, const, fun, fun-rec, var, proc, proc-rec, echo, set, if-stat, while, call, Block, block}
+use Rattle.language.specs.Syntax.{Ident, bool, int, arrow, vec, one-type, more-types, arg, val-arg, var-arg, num, name, if-expr, and, or, app, abs, alloc, nth-expr, len, vset, one-expr, more-exprs, val, adr, last, def-then, stat-then, const, fun, fun-rec, var, proc, proc-rec, echo, set, if-stat, while, call, Block, block}
 use Rattle.language.specs.Places.{place-ident}
-use Rattle.language.specs.Words.{Mark, kLbr, kRbr, kLpar, kRpar, kSemi, kColon, kComma, kStar, kArrow, kCONST, kFUN, kREC, kVAR, kPROC, kECHO, kSET, kIF, kWHILE, kCALL, kif, kand, kor, kbool, kint, kvar, kadr, Word, mark, number, named}
-use Rattle.language.specs.Grammar.{Sort, BLOCK, CMDS, DEF, STAT, TYPE, TYPES, ARG, ARGS, ARGP, ARGSP, EXPR, EXPRS, EXPRP, EXPRSP, TreeOf, Reads, r-block, r-last, r-def-then, r-stat-then, r-const, r-fun, r-fun-rec, r-var, r-proc, r-proc-rec, r-bool, r-int, r-arrow, r-one-type, r-more-types, r-arg, r-one-arg, r-more-args, r-val-arg, r-var-arg, r-one-argp, r-more-argsp, r-echo, r-set, r-if-stat, r-while, r-call, r-one-exprp, r-more-exprsp, r-val, r-adr, r-num, r-name, r-if-expr, r-and, r-or, r-app, r-abs, r-one-expr, r-more-exprs}
+use Rattle.language.specs.Words.{Mark, kLbr, kRbr, kLpar, kRpar, kSemi, kColon, kComma, kStar, kArrow, kCONST, kFUN, kREC, kVAR, kPROC, kECHO, kSET, kIF, kWHILE, kCALL, kif, kand, kor, kbool, kint, kvar, kadr, kvec, kalloc, knth, klen, kvset, Word, mark, number, named}
+use Rattle.language.specs.Grammar.{Sort, BLOCK, CMDS, DEF, STAT, TYPE, TYPES, ARG, ARGS, ARGP, ARGSP, EXPR, EXPRS, EXPRP, EXPRSP, TreeOf, Reads, r-block, r-last, r-def-then, r-stat-then, r-const, r-fun, r-fun-rec, r-var, r-proc, r-proc-rec, r-bool, r-int, r-arrow, r-vec, r-one-type, r-more-types, r-arg, r-one-arg, r-more-args, r-val-arg, r-var-arg, r-one-argp, r-more-argsp, r-echo, r-set, r-if-stat, r-while, r-call, r-one-exprp, r-more-exprsp, r-val, r-adr, r-num, r-name, r-if-expr, r-and, r-or, r-app, r-abs, r-alloc, r-nth, r-len, r-vset, r-one-expr, r-more-exprs}
 use Rattle.language.specs.Table.{Forest, shapeType, shapeTypes, shapeArg, shapeArgs, shapeArgP, shapeArgsP, shapeExpr, shapeExprs, shapeExprP, shapeExprsP, shapeCmds, shapeDef, shapeStat, shapeBlock, Node, node}
 use Rattle.language.specs.Levels.{levelsType, levelsTypes, levelsArg, levelsArgs, levelsArgP, levelsArgsP, levelsExpr, levelsExprs, levelsExprP, levelsExprsP, levelsCmds, levelsDef, levelsStat, levelsBlock, levels}
-use Rattle.language.proofs.reading.Machine.{link, add-leaf, add-fork, retype, put, Sym, sBlock, sBody, sTail, sSemi, sCT, sExpr, sFT, sFL, sArg1, sArg0, sType, sArgp1, sArgp0, sIC, sIB, sWC, sK1, sK0, sParen, sParenP, sE3, sE2, sE1, sRP, sArgs1, sArgs0, sTs1, sTs0, sTR, Ctx, ctx, lev, down, Entry, ent, follow, Rule, thn, type-rules, block-rules, ex-rules, expr-rules, exprp-rules, arg-rules, argp-rules, paren-rules, adr-rules, rules, Parsed, through, parse, enter, whole}
+use Rattle.language.proofs.reading.Machine.{link, add-leaf, add-fork, retype, put, Sym, sBlock, sBody, sTail, sSemi, sCT, sExpr, sFT, sFL, sArg1, sArg0, sType, sArgp1, sArgp0, sIC, sIB, sWC, sK1, sK0, sParen, sParenP, sE3, sE2, sE1, sRP, sArgs1, sArgs0, sTs1, sTs0, sTR, sAT, sTP, Ctx, ctx, lev, down, Entry, ent, follow, Rule, thn, type-rules, vec-rules, block-rules, ex-rules, expr-rules, exprp-rules, arg-rules, argp-rules, paren-rules, adr-rules, rules, Parsed, through, parse, enter, whole}
 use Rattle.language.proofs.reading.Machine
 
 -- `shape` and `levels` of each sort
@@ -140,7 +140,7 @@ FactOf CMDS e ts r = (q : ℕ) (u : Ctx) (s : List Entry) (t : List Node) (ls : 
 FactOf DEF e ts r = Between sBody sSemi DEF e ts r
 FactOf STAT e ts r = Closer r → Between sBody sTail STAT e ts r
 FactOf TYPE e ts r = Enter type-rules TYPE e ts r
-FactOf TYPES e ts r = Between sTs1 sTs0 TYPES e ts r
+FactOf TYPES e ts r = (ex : List Rule) (q : ℕ) (u : Ctx) (s : List Entry) (t : List Node) (ls : List ℕ → List ℕ) → Went (shape TYPES e) q t (enter (thn (some sTs0) type-rules ++ ex) q u s t ls ts) r (λ a. ent sTs0 a u ∷ s) (λ l. ls (levelsOf TYPES e (lev u) l))
 FactOf ARG e ts r = Enter arg-rules ARG e ts r
 FactOf ARGS e ts r = Closing sArg1 sExpr ARGS e ts r
 FactOf ARGP e ts r = Enter argp-rules ARGP e ts r
@@ -175,6 +175,30 @@ paren-or : {P : Sym} → IsParen P → (i : ℕ) (u : Ctx) (s : List Entry) (t :
 unfolding parse
 paren-or isE i u s t ls ts = refl
 paren-or isP i u s t ls ts = refl
+
+paren-alloc : {P : Sym} → IsParen P → (i : ℕ) (u : Ctx) (s : List Entry) (t : List Node) (ls : List ℕ → List ℕ) (ts : List Word)
+    → parse (mark kalloc i ∷ ts) (ent P 0 u ∷ s) t ls ≡ parse ts (ent sAT 0 u ∷ s) (retype 27 t) (λ l. ls (0 ∷ l))
+unfolding parse
+paren-alloc isE i u s t ls ts = refl
+paren-alloc isP i u s t ls ts = refl
+
+paren-nth : {P : Sym} → IsParen P → (i : ℕ) (u : Ctx) (s : List Entry) (t : List Node) (ls : List ℕ → List ℕ) (ts : List Word)
+    → parse (mark knth i ∷ ts) (ent P 0 u ∷ s) t ls ≡ parse ts (ent sE2 0 u ∷ s) (retype 28 t) (λ l. ls (0 ∷ l))
+unfolding parse
+paren-nth isE i u s t ls ts = refl
+paren-nth isP i u s t ls ts = refl
+
+paren-len : {P : Sym} → IsParen P → (i : ℕ) (u : Ctx) (s : List Entry) (t : List Node) (ls : List ℕ → List ℕ) (ts : List Word)
+    → parse (mark klen i ∷ ts) (ent P 0 u ∷ s) t ls ≡ parse ts (ent sE1 0 u ∷ s) (retype 29 t) (λ l. ls (0 ∷ l))
+unfolding parse
+paren-len isE i u s t ls ts = refl
+paren-len isP i u s t ls ts = refl
+
+paren-vset : {P : Sym} → IsParen P → (i : ℕ) (u : Ctx) (s : List Entry) (t : List Node) (ls : List ℕ → List ℕ) (ts : List Word)
+    → parse (mark kvset i ∷ ts) (ent P 0 u ∷ s) t ls ≡ parse ts (ent sE3 0 u ∷ s) (retype 30 t) (λ l. ls (0 ∷ l))
+unfolding parse
+paren-vset isE i u s t ls ts = refl
+paren-vset isP i u s t ls ts = refl
 
 paren-app : {P : Sym} (h : IsParen P) (u : Ctx) (s : List Entry) (t : List Node) (ls : List ℕ → List ℕ) (ts : List Word)
     → parse ts (ent P 0 u ∷ s) t ls ≡ enter (thn (some sArgs1) expr-rules ++ pex h) 0 u s t ls ts
@@ -312,19 +336,29 @@ read-int {p = p} = record { get = λ ns ex q u s t ls. leafw 16 p q t refl }
 
 read-arrow : {p i j : ℕ} {a : TreeOf TYPES} {t : TreeOf TYPE} {ts us r : List Word} → Fact TYPES a ts (mark kArrow i ∷ us) → Fact TYPE t us (mark kRpar j ∷ r) → Fact TYPE (arrow p a t) (mark kLpar p ∷ ts) r
 unfolding parse enter shapeType shapeArg shapeArgs shapeArgP shapeArgsP shapeExpr shapeExprP shapeExprsP shapeCmds levelsType levelsArg levelsArgs levelsArgP levelsArgsP levelsExpr levelsExprP levelsExprsP levelsCmds
-read-arrow {p = p} {us = us} h k = record {
+read-arrow {p = p} {ts = ts} {us = us} h k = record {
   get = λ ns ex q u s t ls.
       let S : List Entry = follow ns (suc (length t)) u s in
-      wrap 17 p q t refl (seq (h .get 0 (down u) S (add-fork 17 p q t) _) (run-enter sTR _ (down u) S _ _ us) (k .get (some sRP) [] _ (down u) S _ _)) refl;
+      begin
+      (run-enter sTP 0 (down u) S (add-fork 17 p q t) (λ l. ls (suc (lev u) ∷ l)) ts)
+      (wrap 17 p q t refl (seq (h .get vec-rules 0 (down u) S (add-fork 17 p q t) _) (run-enter sTR _ (down u) S _ _ us) (k .get (some sRP) [] _ (down u) S _ _)) refl);
+}
+
+read-vec : {p i j : ℕ} {t : TreeOf TYPE} {ts r : List Word} → Fact TYPE t ts (mark kRpar j ∷ r) → Fact TYPE (vec p t) (mark kLpar p ∷ mark kvec i ∷ ts) r
+unfolding parse enter shapeType shapeArg shapeArgs shapeArgP shapeArgsP shapeExpr shapeExprP shapeExprsP shapeCmds levelsType levelsArg levelsArgs levelsArgP levelsArgsP levelsExpr levelsExprP levelsExprsP levelsCmds
+read-vec {p = p} {ts = ts} h = record {
+  get = λ ns ex q u s t ls.
+      let S : List Entry = follow ns (suc (length t)) u s in
+      wrap 26 p q t (retype-fork 26 17 p q t) (into sTR (down u) S _ ts (h .get (some sRP) [] 0 (down u) S (retype 26 (add-fork 17 p q t)) _)) refl;
 }
 
 read-one-type : {t : TreeOf TYPE} {ts r : List Word} → Fact TYPE t ts r → Fact TYPES (one-type t) ts r
 unfolding parse enter shapeType shapeArg shapeArgs shapeArgP shapeArgsP shapeExpr shapeExprP shapeExprsP shapeCmds levelsType levelsArg levelsArgs levelsArgP levelsArgsP levelsExpr levelsExprP levelsExprsP levelsCmds
-read-one-type {ts = ts} h = record { get = λ q u s t ls. into sTs1 u s _ ts (h .get (some sTs0) [] q u s t ls) }
+read-one-type h = record { get = λ ex q u s t ls. h .get (some sTs0) ex q u s t ls }
 
 read-more-types : {i : ℕ} {t : TreeOf TYPE} {a : TreeOf TYPES} {ts us r : List Word} → Fact TYPE t ts (mark kStar i ∷ us) → Fact TYPES a us r → Fact TYPES (more-types t a) ts r
 unfolding parse enter shapeType shapeArg shapeArgs shapeArgP shapeArgsP shapeExpr shapeExprP shapeExprsP shapeCmds levelsType levelsArg levelsArgs levelsArgP levelsArgsP levelsExpr levelsExprP levelsExprsP levelsCmds
-read-more-types {ts = ts} h k = record { get = λ q u s t ls. seq (into sTs1 u s _ ts (h .get (some sTs0) [] q u s t ls)) refl (k .get _ u s _ _) }
+read-more-types {us = us} h k = record { get = λ ex q u s t ls. seq (h .get (some sTs0) ex q u s t ls) (run-enter sTs1 _ u s _ _ us) (k .get [] _ u s _ _) }
 
 read-arg : {i : ℕ} {x : Ident} {t : TreeOf TYPE} {ts r : List Word} → Fact TYPE t ts r → Fact ARG (arg x t) (named x ∷ mark kColon i ∷ ts) r
 unfolding parse enter shapeType shapeArg shapeArgs shapeArgP shapeArgsP shapeExpr shapeExprP shapeExprsP shapeCmds levelsType levelsArg levelsArgs levelsArgP levelsArgsP levelsExpr levelsExprP levelsExprsP levelsCmds
@@ -502,6 +536,62 @@ read-abs {p = p} {us = us} h k = record {
       wrap 24 p q t refl (seq (h .get 0 (down u) S (add-fork 24 p q t) _ us lit) (run-enter sExpr _ (down u) S _ _ us) (k .get sParen isE none [] _ (down u) S _ _)) refl;
 }
 
+read-alloc : {p i j : ℕ} {t : TreeOf TYPE} {e : TreeOf EXPR} {ts us r : List Word} → Fact TYPE t ts us → Fact EXPR e us (mark kRpar j ∷ r) → Fact EXPR (alloc p t e) (mark kLpar p ∷ mark kalloc i ∷ ts) r
+unfolding parse enter shapeType shapeArg shapeArgs shapeArgP shapeArgsP shapeExpr shapeExprP shapeExprsP shapeCmds levelsType levelsArg levelsArgs levelsArgP levelsArgsP levelsExpr levelsExprP levelsExprsP levelsCmds
+read-alloc {p = p} {i = i} {ts = ts} ht he = record {
+  get = λ P h ns ex q u s t ls.
+      let S : List Entry = follow ns (suc (length t)) u s in
+      begin
+      (paren-alloc h i (down u) S (add-fork 23 p q t) (λ l. ls (suc (lev u) ∷ l)) ts)
+      (wrap 27 p q t (retype-fork 27 23 p q t)
+      (next sE1 (down u) S
+      (into sAT (down u) S _ ts (ht .get (some sE1) [] 0 (down u) S (retype 27 (add-fork 23 p q t)) _))
+      (he .get sParen isE (some sRP) [] _ (down u) S _ _))
+      refl);
+}
+
+read-nth : {p i j : ℕ} {e f : TreeOf EXPR} {ts us r : List Word} → Fact EXPR e ts us → Fact EXPR f us (mark kRpar j ∷ r) → Fact EXPR (nth-expr p e f) (mark kLpar p ∷ mark knth i ∷ ts) r
+unfolding parse enter shapeType shapeArg shapeArgs shapeArgP shapeArgsP shapeExpr shapeExprP shapeExprsP shapeCmds levelsType levelsArg levelsArgs levelsArgP levelsArgsP levelsExpr levelsExprP levelsExprsP levelsCmds
+read-nth {p = p} {i = i} {ts = ts} he hf = record {
+  get = λ P h ns ex q u s t ls.
+      let S : List Entry = follow ns (suc (length t)) u s in
+      begin
+      (paren-nth h i (down u) S (add-fork 23 p q t) (λ l. ls (suc (lev u) ∷ l)) ts)
+      (wrap 28 p q t (retype-fork 28 23 p q t)
+      (next sE1 (down u) S
+      (into sE2 (down u) S _ ts (he .get sParen isE (some sE1) [] 0 (down u) S (retype 28 (add-fork 23 p q t)) _))
+      (hf .get sParen isE (some sRP) [] _ (down u) S _ _))
+      refl);
+}
+
+read-len : {p i j : ℕ} {e : TreeOf EXPR} {ts r : List Word} → Fact EXPR e ts (mark kRpar j ∷ r) → Fact EXPR (len p e) (mark kLpar p ∷ mark klen i ∷ ts) r
+unfolding parse enter shapeType shapeArg shapeArgs shapeArgP shapeArgsP shapeExpr shapeExprP shapeExprsP shapeCmds levelsType levelsArg levelsArgs levelsArgP levelsArgsP levelsExpr levelsExprP levelsExprsP levelsCmds
+read-len {p = p} {i = i} {ts = ts} he = record {
+  get = λ P h ns ex q u s t ls.
+      let S : List Entry = follow ns (suc (length t)) u s in
+      begin
+      (paren-len h i (down u) S (add-fork 23 p q t) (λ l. ls (suc (lev u) ∷ l)) ts)
+      (wrap 29 p q t (retype-fork 29 23 p q t)
+      (into sE1 (down u) S _ ts (he .get sParen isE (some sRP) [] 0 (down u) S (retype 29 (add-fork 23 p q t)) _))
+      refl);
+}
+
+read-vset : {p i j : ℕ} {e f g : TreeOf EXPR} {ts us vs r : List Word} → Fact EXPR e ts us → Fact EXPR f us vs → Fact EXPR g vs (mark kRpar j ∷ r) → Fact EXPR (vset p e f g) (mark kLpar p ∷ mark kvset i ∷ ts) r
+unfolding parse enter shapeType shapeArg shapeArgs shapeArgP shapeArgsP shapeExpr shapeExprP shapeExprsP shapeCmds levelsType levelsArg levelsArgs levelsArgP levelsArgsP levelsExpr levelsExprP levelsExprsP levelsCmds
+read-vset {p = p} {i = i} {ts = ts} he hf hg = record {
+  get = λ P h ns ex q u s t ls.
+      let S : List Entry = follow ns (suc (length t)) u s in
+      begin
+      (paren-vset h i (down u) S (add-fork 23 p q t) (λ l. ls (suc (lev u) ∷ l)) ts)
+      (wrap 30 p q t (retype-fork 30 23 p q t)
+      (next sE1 (down u) S
+      (next sE2 (down u) S
+      (into sE3 (down u) S _ ts (he .get sParen isE (some sE2) [] 0 (down u) S (retype 30 (add-fork 23 p q t)) _))
+      (hf .get sParen isE (some sE1) [] _ (down u) S _ _))
+      (hg .get sParen isE (some sRP) [] _ (down u) S _ _))
+      refl);
+}
+
 read-one-expr : {e : TreeOf EXPR} {ts r : List Word} → Fact EXPR e ts r → Fact EXPRS (one-expr e) ts r
 unfolding parse enter shapeType shapeArg shapeArgs shapeArgP shapeArgsP shapeExpr shapeExprP shapeExprsP shapeCmds levelsType levelsArg levelsArgs levelsArgP levelsArgsP levelsExpr levelsExprP levelsExprsP levelsCmds
 read-one-expr h = record { get = λ ex q u s t ls. h .get sParen isE (some sArgs0) ex q u s t ls }
@@ -524,6 +614,7 @@ comp (r-proc-rec h k) = read-proc-rec (comp h) (comp k)
 comp r-bool = read-bool
 comp r-int = read-int
 comp (r-arrow h k) = read-arrow (comp h) (comp k)
+comp (r-vec h) = read-vec (comp h)
 comp (r-one-type h) = read-one-type (comp h)
 comp (r-more-types h k) = read-more-types (comp h) (comp k)
 comp (r-arg h) = read-arg (comp h)
@@ -549,6 +640,10 @@ comp (r-and he hf) = read-and (comp he) (comp hf)
 comp (r-or he hf) = read-or (comp he) (comp hf)
 comp (r-app he k) = read-app (comp he) (comp k)
 comp (r-abs h k) = read-abs (comp h) (comp k)
+comp (r-alloc h k) = read-alloc (comp h) (comp k)
+comp (r-nth he hf) = read-nth (comp he) (comp hf)
+comp (r-len he) = read-len (comp he)
+comp (r-vset he hf hg) = read-vset (comp he) (comp hf) (comp hg)
 comp (r-one-expr h) = read-one-expr (comp h)
 comp (r-more-exprs h k) = read-more-exprs (comp h) (comp k)
 

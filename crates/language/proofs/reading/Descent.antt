@@ -4,8 +4,8 @@ use mathlib.Core.Bool.{cond}
 use Prim.Native.Nat.{ℕ, zero, suc, _*_}
 use lib.Dec.{eqb}
 use lib.ListN.{length}
-use Rattle.language.specs.Syntax.{Ident, TypeTree, bool, int, arrow, TypeTrees, one-type, more-types, Arg, arg, ArgP, val-arg, var-arg, Expr, num, name, if-expr, and, or, app, abs, Exprs, one-expr, more-exprs, ExprP, val, adr, Cmds, last, def-then, stat-then, Def, const, fun, fun-rec, var, proc, proc-rec, Stat, echo, set, if-stat, while, call, Block, block}
-use Rattle.language.specs.Words.{Mark, kLbr, kRbr, kLpar, kRpar, kSemi, kColon, kComma, kStar, kArrow, kCONST, kFUN, kREC, kVAR, kPROC, kECHO, kSET, kIF, kWHILE, kCALL, kif, kand, kor, kbool, kint, kvar, kadr, Word, mark, number, named}
+use Rattle.language.specs.Syntax.{Ident, TypeTree, bool, int, arrow, vec, TypeTrees, one-type, more-types, Arg, arg, ArgP, val-arg, var-arg, Expr, num, name, if-expr, and, or, app, abs, alloc, nth-expr, len, vset, Exprs, one-expr, more-exprs, ExprP, val, adr, Cmds, last, def-then, stat-then, Def, const, fun, fun-rec, var, proc, proc-rec, Stat, echo, set, if-stat, while, call, Block, block}
+use Rattle.language.specs.Words.{Mark, kLbr, kRbr, kLpar, kRpar, kSemi, kColon, kComma, kStar, kArrow, kCONST, kFUN, kREC, kVAR, kPROC, kECHO, kSET, kIF, kWHILE, kCALL, kif, kand, kor, kbool, kint, kvar, kadr, kvec, kalloc, knth, klen, kvset, Word, mark, number, named}
 use Rattle.language.proofs.reading.Machine.{code}
 
 -- nothing read, or a value and the words that are left
@@ -51,11 +51,17 @@ pub record Level : Type 0 where
   pub cmds : List Word → Got Cmds
   pub block : List Word → Got Block
 
+-- after a type's parenthesis
+abbrev pub typeParenOf : Level → ℕ → List Word → Got TypeTree
+typeParenOf L p us =
+    orElse (andThen (L .types us) λ a vs. andThen (expect kArrow vs) λ i ws. andThen (L .type ws) λ t xs. andThen (expect kRpar xs) λ j r. got (arrow p a t) r)
+    (andThen (expect kvec us) λ i vs. andThen (L .type vs) λ t ws. andThen (expect kRpar ws) λ j r. got (vec p t) r)
+
 abbrev pub typeOf : Level → List Word → Got TypeTree
 typeOf L ts =
     orElse (andThen (expect kbool ts) λ p r. got (bool p) r)
     (orElse (andThen (expect kint ts) λ p r. got (int p) r)
-    (andThen (expect kLpar ts) λ p us. andThen (L .types us) λ a vs. andThen (expect kArrow vs) λ i ws. andThen (L .type ws) λ t xs. andThen (expect kRpar xs) λ j r. got (arrow p a t) r))
+    (andThen (expect kLpar ts) λ p us. typeParenOf L p us))
 
 abbrev pub typesOf : Level → List Word → Got TypeTrees
 typesOf L ts = andThen (L .type ts) λ t us. orElse (andThen (expect kStar us) λ i vs. andThen (L .types vs) λ a r. got (more-types t a) r) (got (one-type t) us)
@@ -80,7 +86,11 @@ parenOf L p ts =
     orElse (andThen (L .expr ts) λ e us. andThen (L .exprs us) λ a vs. andThen (expect kRpar vs) λ j r. got (app p e a) r)
     (orElse (andThen (expect kif ts) λ i us. andThen (L .expr us) λ e vs. andThen (L .expr vs) λ f ws. andThen (L .expr ws) λ g xs. andThen (expect kRpar xs) λ j r. got (if-expr p e f g) r)
     (orElse (andThen (expect kand ts) λ i us. andThen (L .expr us) λ e vs. andThen (L .expr vs) λ f ws. andThen (expect kRpar ws) λ j r. got (and p e f) r)
-    (andThen (expect kor ts) λ i us. andThen (L .expr us) λ e vs. andThen (L .expr vs) λ f ws. andThen (expect kRpar ws) λ j r. got (or p e f) r)))
+    (orElse (andThen (expect kor ts) λ i us. andThen (L .expr us) λ e vs. andThen (L .expr vs) λ f ws. andThen (expect kRpar ws) λ j r. got (or p e f) r)
+    (orElse (andThen (expect kalloc ts) λ i us. andThen (L .type us) λ t vs. andThen (L .expr vs) λ e ws. andThen (expect kRpar ws) λ j r. got (alloc p t e) r)
+    (orElse (andThen (expect knth ts) λ i us. andThen (L .expr us) λ e vs. andThen (L .expr vs) λ f ws. andThen (expect kRpar ws) λ j r. got (nth-expr p e f) r)
+    (orElse (andThen (expect klen ts) λ i us. andThen (L .expr us) λ e vs. andThen (expect kRpar vs) λ j r. got (len p e) r)
+    (andThen (expect kvset ts) λ i us. andThen (L .expr us) λ e vs. andThen (L .expr vs) λ f ws. andThen (L .expr ws) λ g xs. andThen (expect kRpar xs) λ j r. got (vset p e f g) r)))))))
 
 abbrev pub exprOf : Level → List Word → Got Expr
 exprOf L ts =

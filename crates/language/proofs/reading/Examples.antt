@@ -2,11 +2,11 @@
 use mathlib.Core.Path.{_≡_, refl}
 use mathlib.Core.List.{[], _∷_}
 use lib.IntN.{pos, negsuc}
-use Rattle.language.specs.Syntax.{at, num, name, app, one-expr, more-exprs, last, def-then, const, echo, set, block}
+use Rattle.language.specs.Syntax.{at, num, name, app, one-expr, more-exprs, last, def-then, const, echo, set, Block, block}
 use Rattle.language.specs.Bytes.{bytesOf}
 use Rattle.language.specs.Answers.{BYTE, NUMBER, SYNTAX, fine, refuse}
 use Rattle.language.specs.Words.{kLbr, kRbr, kArrow, kECHO, mark, number, named, wordsFrom, wordsOf}
-use Rattle.language.specs.Table.{shapeExpr, shapeCmds, size, first, enc, table}
+use Rattle.language.specs.Table.{shapeType, shapeExpr, shapeCmds, size, first, enc, table}
 use Rattle.language.proofs.reading.Machine.{set-sib, link, add-leaf, add-fork, retype, parse}
 use Rattle.language.proofs.reading.Descent.{descent}
 use Rattle.language.proofs.reading.Reader.{past, deep, read}
@@ -120,3 +120,26 @@ w9 = refl
 w10 : wordsOf (91 ∷ 195 ∷ 169 ∷ []) ≡ refuse BYTE 1
 unfolding wordsFrom
 w10 = refl
+
+-- blocks of cells: the five key words, a tree in full and its table
+w11 : wordsOf (bytesOf "vec alloc nth len vset vecs")
+    ≡ fine (mark Words.kvec 0 ∷ mark Words.kalloc 4 ∷ mark Words.knth 10 ∷ mark Words.klen 14 ∷ mark Words.kvset 18 ∷ named (at 23 (bytesOf "vecs")) ∷ [])
+unfolding wordsFrom
+w11 = refl
+
+abbrev blocks-tree : Block
+blocks-tree =
+    block 0
+    (last
+    (echo 1
+    (Syntax.nth-expr 6 (Syntax.vset 11 (Syntax.alloc 17 (Syntax.vec 24 (Syntax.int 29)) (num 34 (pos 2))) (num 37 (pos 0)) (name (at 39 (bytesOf "x"))))
+    (Syntax.len 42 (name (at 47 (bytesOf "y")))))))
+
+r12 : read (bytesOf "[ECHO (nth (vset (alloc (vec int) 2) 0 x) (len y))]") ≡ fine blocks-tree
+unfolding read wordsFrom parse add-leaf add-fork link set-sib retype descent past deep
+r12 = refl
+
+t2 : table blocks-tree ≡
+    0x0001000000010000 ∷ 0x0008000100020000 ∷ 0x001C000600030000 ∷ 0x001E000B0004000A ∷ 0x001B001100050008 ∷ 0x001A001800060007 ∷ 0x0010001D00000000 ∷ 0x0012002200000000 ∷ 0x0012002500000009 ∷ 0x0013002700000000 ∷ 0x001D002A000B0000 ∷ 0x0013002F00000000 ∷ []
+unfolding table enc size first shapeExpr shapeCmds shapeType
+t2 = refl

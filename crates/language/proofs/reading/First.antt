@@ -12,7 +12,7 @@ use Rattle.language.specs.Grammar.{BLOCK, Reads, Begins}
 use Rattle.language.specs.Table.{Node}
 use Rattle.language.specs.Levels.{levels}
 use Rattle.language.specs.Reading.{Opens, Ends}
-use Rattle.language.proofs.reading.Machine.{tag, Sym, sBlock, sBody, sTail, sSemi, sCN, sCT, sExpr, sFunH, sFN, sFT, sFL, sArg1, sArg0, sColon, sType, sVN, sProcH, sPN, sPL, sArgp1, sArgp0, sVarN, sSN, sIC, sIB, sWC, sKN, sK1, sK0, sParen, sParenP, sE3, sE2, sE1, sRP, sArgs1, sArgs0, sAN, sTs1, sTs0, sTR, Ctx, Entry, ent, places, follow, Rule, rule, rules, pick, Parsed, through, stuck, parse, start, whole}
+use Rattle.language.proofs.reading.Machine.{tag, Sym, sBlock, sBody, sTail, sSemi, sCN, sCT, sExpr, sFunH, sFN, sFT, sFL, sArg1, sArg0, sColon, sType, sVN, sProcH, sPN, sPL, sArgp1, sArgp0, sVarN, sSN, sIC, sIB, sWC, sKN, sK1, sK0, sParen, sParenP, sE3, sE2, sE1, sRP, sArgs1, sArgs0, sAN, sTs1, sTs0, sTR, sTP, sAT, Ctx, Entry, ent, places, follow, Rule, rule, rules, pick, Parsed, through, stuck, parse, start, whole}
 use Rattle.language.proofs.reading.Reader.{levelsIn}
 use Rattle.language.proofs.reading.Complete.{complete}
 use Rattle.language.proofs.reading.Sound.{sound}
@@ -61,6 +61,8 @@ word sAN = named (at 0 []) ∷ mark kRpar 0 ∷ []
 word sTs1 = mark kbool 0 ∷ mark kArrow 0 ∷ mark kbool 0 ∷ mark kRpar 0 ∷ []
 word sTs0 = mark kArrow 0 ∷ mark kbool 0 ∷ mark kRpar 0 ∷ []
 word sTR = mark kbool 0 ∷ mark kRpar 0 ∷ []
+word sTP = mark kbool 0 ∷ mark kArrow 0 ∷ mark kbool 0 ∷ mark kRpar 0 ∷ []
+word sAT = mark kbool 0 ∷ number 0 (pos 0) ∷ mark kRpar 0 ∷ []
 
 word-read : (X : Sym) (q : ℕ) (u : Ctx) (s : List Entry) (t : List Node) (f : List ℕ → List ℕ)
     → (t′ : List Node) × (f′ : List ℕ → List ℕ) × ((w : List Word) → parse (word X ++ w) (ent X q u ∷ s) t f ≡ parse w s t′ f′)
@@ -106,6 +108,8 @@ word-read sAN q u s t f = (_, _, λ w. refl)
 word-read sTs1 q u s t f = (_, _, λ w. refl)
 word-read sTs0 q u s t f = (_, _, λ w. refl)
 word-read sTR q u s t f = (_, _, λ w. refl)
+word-read sTP q u s t f = (_, _, λ w. refl)
+word-read sAT q u s t f = (_, _, λ w. refl)
 
 -- every stack can be read to its end
 finish : (s : List Entry) (t : List Node) (f : List ℕ → List ℕ) → (w : List Word) × (t′ : List Node) × (o : List ℕ) × (parse w s t f ≡ through t′ o)

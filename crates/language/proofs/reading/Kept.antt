@@ -2,7 +2,7 @@
 use mathlib.Core.List.{List, []}
 use Rattle.language.specs.Syntax.{Block}
 use Rattle.language.specs.Words.{Word}
-use Rattle.language.specs.Grammar.{Sort, BLOCK, CMDS, DEF, STAT, TYPE, TYPES, ARG, ARGS, ARGP, ARGSP, EXPR, EXPRS, EXPRP, EXPRSP, TreeOf, Reads, r-block, r-last, r-def-then, r-stat-then, r-const, r-fun, r-fun-rec, r-var, r-proc, r-proc-rec, r-bool, r-int, r-arrow, r-one-type, r-more-types, r-arg, r-one-arg, r-more-args, r-val-arg, r-var-arg, r-one-argp, r-more-argsp, r-echo, r-set, r-if-stat, r-while, r-call, r-one-exprp, r-more-exprsp, r-val, r-adr, r-num, r-name, r-if-expr, r-and, r-or, r-app, r-abs, r-one-expr, r-more-exprs}
+use Rattle.language.specs.Grammar.{Sort, BLOCK, CMDS, DEF, STAT, TYPE, TYPES, ARG, ARGS, ARGP, ARGSP, EXPR, EXPRS, EXPRP, EXPRSP, TreeOf, Reads, r-block, r-last, r-def-then, r-stat-then, r-const, r-fun, r-fun-rec, r-var, r-proc, r-proc-rec, r-bool, r-int, r-arrow, r-vec, r-one-type, r-more-types, r-arg, r-one-arg, r-more-args, r-val-arg, r-var-arg, r-one-argp, r-more-argsp, r-echo, r-set, r-if-stat, r-while, r-call, r-one-exprp, r-more-exprsp, r-val, r-adr, r-num, r-name, r-if-expr, r-and, r-or, r-app, r-abs, r-alloc, r-nth, r-len, r-vset, r-one-expr, r-more-exprs}
 use Rattle.language.proofs.reading.Standing.{inArg, inArgs, inArgP, inArgsP, inExpr, inExprs, inExprP, inExprsP, inCmds, inDef, inStat, inBlock}
 use Rattle.language.proofs.reading.Payload.{All}
 
@@ -37,6 +37,7 @@ kept P (r-proc-rec h k) a = let u = kept P h (a .1 .1 .1 .1) in let v = kept P k
 kept P r-bool a = (tt, a .1)
 kept P r-int a = (tt, a .1)
 kept P (r-arrow h k) a = let u = kept P h (a .1) in let v = kept P k (u .1 .1) in (tt, v .1 .1)
+kept P (r-vec h) a = let u = kept P h (a .1 .1) in (tt, u .1 .1)
 kept P (r-one-type h) a = let u = kept P h a in (tt, u .1)
 kept P (r-more-types h k) a = let u = kept P h a in let v = kept P k (u .1 .1) in (tt, v .1)
 kept P (r-arg h) a = let u = kept P h (a .1 .1) in (a .0, u .1)
@@ -62,6 +63,10 @@ kept P (r-and h k) a = let u = kept P h (a .1 .1) in let v = kept P k (u .1) in 
 kept P (r-or h k) a = let u = kept P h (a .1 .1) in let v = kept P k (u .1) in ((u .0, v .0), v .1 .1)
 kept P (r-app h k) a = let u = kept P h (a .1) in let v = kept P k (u .1) in ((u .0, v .0), v .1 .1)
 kept P (r-abs h k) a = let u = kept P h (a .1) in let v = kept P k (u .1 .1) in ((u .0, v .0), v .1)
+kept P (r-alloc h k) a = let u = kept P h (a .1 .1) in let v = kept P k (u .1) in (v .0, v .1 .1)
+kept P (r-nth h k) a = let u = kept P h (a .1 .1) in let v = kept P k (u .1) in ((u .0, v .0), v .1 .1)
+kept P (r-len h) a = let u = kept P h (a .1 .1) in (u .0, u .1 .1)
+kept P (r-vset h k l) a = let u = kept P h (a .1 .1) in let v = kept P k (u .1) in let w = kept P l (v .1) in ((u .0, v .0, w .0), w .1 .1)
 kept P (r-one-expr h) a = kept P h a
 kept P (r-more-exprs h k) a = let u = kept P h a in let v = kept P k (u .1) in ((u .0, v .0), v .1)
 

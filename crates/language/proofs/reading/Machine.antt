@@ -6,7 +6,7 @@ use mathlib.Core.Bool.{cond}
 use Prim.Native.Nat.{ℕ, zero, suc}
 use lib.ListN.{length}
 use lib.Dec.{eqb}
-use Rattle.language.specs.Words.{Mark, kLbr, kRbr, kLpar, kRpar, kSemi, kColon, kComma, kStar, kArrow, kCONST, kFUN, kREC, kVAR, kPROC, kECHO, kSET, kIF, kWHILE, kCALL, kif, kand, kor, kbool, kint, kvar, kadr, Word, mark, number, named, place-word}
+use Rattle.language.specs.Words.{Mark, kLbr, kRbr, kLpar, kRpar, kSemi, kColon, kComma, kStar, kArrow, kCONST, kFUN, kREC, kVAR, kPROC, kECHO, kSET, kIF, kWHILE, kCALL, kif, kand, kor, kbool, kint, kvar, kadr, kvec, kalloc, knth, klen, kvset, Word, mark, number, named, place-word}
 use Rattle.language.specs.Table.{Forest, Node, node}
 
 -- The kinds of words as numbers.
@@ -37,6 +37,11 @@ code kbool = 23
 code kint = 24
 code kvar = 25
 code kadr = 26
+code kvec = 29
+code kalloc = 30
+code knth = 31
+code klen = 32
+code kvset = 33
 
 abbrev pub tNum : ℕ
 tNum = 27
@@ -83,7 +88,7 @@ put (Forest.fork k p c s) q t = put s (suc (length t)) (put c 0 (add-fork k p q 
 
 pub data Sym : Type 0 where
   sBlock sBody sTail sSemi sCN sCT sExpr sFunH sFN sFT sFL sArg1 sArg0 sColon sType sVN sProcH sPN sPL sArgp1 sArgp0 sVarN : Sym
-  sSN sIC sIB sWC sKN sK1 sK0 sParen sParenP sE3 sE2 sE1 sRP sArgs1 sArgs0 sAN sTs1 sTs0 sTR : Sym
+  sSN sIC sIB sWC sKN sK1 sK0 sParen sParenP sE3 sE2 sE1 sRP sArgs1 sArgs0 sAN sTs1 sTs0 sTR sTP sAT : Sym
 
 -- the CALL that an entry stands in, and its level
 pub data Ctx : Type 0 where
@@ -155,7 +160,11 @@ abbrev pub name-rules : List Rule
 name-rules = rule tName (leaf 19) none none ∷ []
 
 abbrev pub type-rules : List Rule
-type-rules = rule (code kbool) (leaf 15) none none ∷ rule (code kint) (leaf 16) none none ∷ rule (code kLpar) (fork 17) (some (deep sTs1)) none ∷ []
+type-rules = rule (code kbool) (leaf 15) none none ∷ rule (code kint) (leaf 16) none none ∷ rule (code kLpar) (fork 17) (some (deep sTP)) none ∷ []
+
+-- what follows a type's parenthesis, besides types
+abbrev pub vec-rules : List Rule
+vec-rules = rule (code kvec) (turn 26) (some (same sTR)) none ∷ []
 
 abbrev pub block-rules : List Rule
 block-rules = rule (code kLbr) (fork 1) (some (deep sBody)) none ∷ []
@@ -177,7 +186,10 @@ abbrev pub argp-rules : List Rule
 argp-rules = rule tName (fork 13) (some (kid sColon)) none ∷ rule (code kvar) skip (some (same sVarN)) none ∷ []
 
 abbrev pub paren-rules : List Rule
-paren-rules = rule (code kif) (turn 20) (some (same sE3)) none ∷ rule (code kand) (turn 21) (some (same sE2)) none ∷ rule (code kor) (turn 22) (some (same sE2)) none ∷ []
+paren-rules =
+    rule (code kif) (turn 20) (some (same sE3)) none ∷ rule (code kand) (turn 21) (some (same sE2)) none ∷ rule (code kor) (turn 22) (some (same sE2)) none
+    ∷ rule (code kalloc) (turn 27) (some (same sAT)) none ∷ rule (code knth) (turn 28) (some (same sE2)) none
+    ∷ rule (code klen) (turn 29) (some (same sE1)) none ∷ rule (code kvset) (turn 30) (some (same sE3)) none ∷ []
 
 abbrev pub adr-rules : List Rule
 adr-rules = rule (code kadr) (turn 25) (some (same sAN)) none ∷ paren-rules
@@ -246,6 +258,8 @@ rules sAN = thn (some sRP) name-rules ++ []
 rules sTs1 = thn (some sTs0) type-rules ++ []
 rules sTs0 = rule (code kStar) skip (some (same sTs1)) none ∷ rule (code kArrow) skip (some (same sTR)) none ∷ []
 rules sTR = thn (some sRP) type-rules ++ []
+rules sTP = thn (some sTs0) type-rules ++ vec-rules
+rules sAT = thn (some sE1) type-rules ++ []
 
 abbrev pub pick : ℕ → List Rule → Option Rule
 pick k [] = none

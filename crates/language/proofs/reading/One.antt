@@ -5,9 +5,9 @@ use Prim.Native.Nat.{ℕ, zero, suc, _+_, _*_, _≤_}
 use native.Mathlib.Omega.{arith}
 use lib.IntN.{ℤ}
 use lib.ListN.{length}
-use Rattle.language.specs.Syntax.{Ident, TypeTree, bool, int, arrow, TypeTrees, one-type, more-types, Arg, arg, ArgP, val-arg, var-arg, Expr, num, name, if-expr, and, or, app, abs, Exprs, one-expr, more-exprs, ExprP, val, adr, Cmds, last, def-then, stat-then, const, fun, fun-rec, var, proc, proc-rec, echo, set, if-stat, while, call, Block, block}
-use Rattle.language.specs.Words.{kLbr, kRbr, kLpar, kRpar, kSemi, kColon, kComma, kStar, kArrow, kCONST, kFUN, kREC, kVAR, kPROC, kECHO, kSET, kIF, kWHILE, kCALL, kif, kand, kor, kbool, kint, kvar, kadr, Word, mark, number, named}
-use Rattle.language.specs.Grammar.{Sort, BLOCK, CMDS, DEF, STAT, TYPE, TYPES, ARG, ARGS, ARGP, ARGSP, EXPR, EXPRS, EXPRP, EXPRSP, TreeOf, Reads, r-block, r-last, r-def-then, r-stat-then, r-const, r-fun, r-fun-rec, r-var, r-proc, r-proc-rec, r-bool, r-int, r-arrow, r-one-type, r-more-types, r-arg, r-one-arg, r-more-args, r-val-arg, r-var-arg, r-one-argp, r-more-argsp, r-echo, r-set, r-if-stat, r-while, r-call, r-one-exprp, r-more-exprsp, r-val, r-adr, r-num, r-name, r-if-expr, r-and, r-or, r-app, r-abs, r-one-expr, r-more-exprs}
+use Rattle.language.specs.Syntax.{Ident, TypeTree, bool, int, arrow, vec, TypeTrees, one-type, more-types, Arg, arg, ArgP, val-arg, var-arg, Expr, num, name, if-expr, and, or, app, abs, alloc, nth-expr, len, vset, Exprs, one-expr, more-exprs, ExprP, val, adr, Cmds, last, def-then, stat-then, const, fun, fun-rec, var, proc, proc-rec, echo, set, if-stat, while, call, Block, block}
+use Rattle.language.specs.Words.{kLbr, kRbr, kLpar, kRpar, kSemi, kColon, kComma, kStar, kArrow, kCONST, kFUN, kREC, kVAR, kPROC, kECHO, kSET, kIF, kWHILE, kCALL, kif, kand, kor, kbool, kint, kvar, kadr, kvec, kalloc, knth, klen, kvset, Word, mark, number, named}
+use Rattle.language.specs.Grammar.{Sort, BLOCK, CMDS, DEF, STAT, TYPE, TYPES, ARG, ARGS, ARGP, ARGSP, EXPR, EXPRS, EXPRP, EXPRSP, TreeOf, Reads, r-block, r-last, r-def-then, r-stat-then, r-const, r-fun, r-fun-rec, r-var, r-proc, r-proc-rec, r-bool, r-int, r-arrow, r-vec, r-one-type, r-more-types, r-arg, r-one-arg, r-more-args, r-val-arg, r-var-arg, r-one-argp, r-more-argsp, r-echo, r-set, r-if-stat, r-while, r-call, r-one-exprp, r-more-exprsp, r-val, r-adr, r-num, r-name, r-if-expr, r-and, r-or, r-app, r-abs, r-alloc, r-nth, r-len, r-vset, r-one-expr, r-more-exprs}
 use Rattle.language.proofs.reading.Descent.{miss, got, expect, Level, typeOf, typesOf, argOf, argsOf, argpOf, argspOf, exprOf, exprsOf, exprpOf, exprspOf, statOf, defOf, cmdsOf, blockOf, descent, treeOf}
 use Rattle.language.proofs.reading.Complete.{Lit, lit, Closer, c-semi, c-rbr, closes}
 
@@ -111,6 +111,32 @@ no-adr zero p i ts = refl
 no-adr (suc zero) p i ts = refl
 no-adr (suc (suc m)) p i ts = refl
 
+no-alloc : (m i : ℕ) (ts : List Word) → descent m .expr (mark kalloc i ∷ ts) ≡ miss
+unfolding descent
+no-alloc zero i ts = refl
+no-alloc (suc m) i ts = refl
+
+no-nth : (m i : ℕ) (ts : List Word) → descent m .expr (mark knth i ∷ ts) ≡ miss
+unfolding descent
+no-nth zero i ts = refl
+no-nth (suc m) i ts = refl
+
+no-len : (m i : ℕ) (ts : List Word) → descent m .expr (mark klen i ∷ ts) ≡ miss
+unfolding descent
+no-len zero i ts = refl
+no-len (suc m) i ts = refl
+
+no-vset : (m i : ℕ) (ts : List Word) → descent m .expr (mark kvset i ∷ ts) ≡ miss
+unfolding descent
+no-vset zero i ts = refl
+no-vset (suc m) i ts = refl
+
+no-vec : (m i : ℕ) (ts : List Word) → descent m .types (mark kvec i ∷ ts) ≡ miss
+unfolding descent
+no-vec zero i ts = refl
+no-vec (suc zero) i ts = refl
+no-vec (suc (suc m)) i ts = refl
+
 no-if : (m i : ℕ) (ts : List Word) → descent m .expr (mark kif i ∷ ts) ≡ miss
 unfolding descent
 no-if zero i ts = refl
@@ -177,6 +203,10 @@ down-int = record { less = omega (arith); get = λ m b. refl }
 down-arrow : {p i j : ℕ} {a : TreeOf TYPES} {t : TreeOf TYPE} {ts us r : List Word} → Fact TYPES a ts (mark kArrow i ∷ us) → Fact TYPE t us (mark kRpar j ∷ r) → Fact TYPE (arrow p a t) (mark kLpar p ∷ ts) r
 unfolding descent
 down-arrow h k = record { less = omega (arith, h .less, k .less); get = λ m b. rw (useTypes h _ lit m (omega (arith, b, k .less)), useType k m (omega (arith, b, h .less))) refl }
+
+down-vec : {p i j : ℕ} {t : TreeOf TYPE} {ts r : List Word} → Fact TYPE t ts (mark kRpar j ∷ r) → Fact TYPE (vec p t) (mark kLpar p ∷ mark kvec i ∷ ts) r
+unfolding descent
+down-vec {i = i} {ts = ts} h = record { less = omega (arith, h .less); get = λ m b. rw (no-vec m i ts, useType h m (omega (arith, b))) refl }
 
 down-one-type : {t : TreeOf TYPE} {ts r : List Word} → Fact TYPE t ts r → Fact TYPES (one-type t) ts r
 unfolding descent
@@ -278,6 +308,22 @@ down-abs : {p i : ℕ} {a : TreeOf ARGS} {e : TreeOf EXPR} {ts us r : List Word}
 unfolding descent
 down-abs h k = record { less = omega (arith, h .less, k .less); get = λ m b. rw (useArgs h _ lit m (omega (arith, b, k .less)), useExpr k m (omega (arith, b, h .less))) refl }
 
+down-alloc : {p i j : ℕ} {t : TreeOf TYPE} {e : TreeOf EXPR} {ts us r : List Word} → Fact TYPE t ts us → Fact EXPR e us (mark kRpar j ∷ r) → Fact EXPR (alloc p t e) (mark kLpar p ∷ mark kalloc i ∷ ts) r
+unfolding descent
+down-alloc {i = i} {ts = ts} h k = record { less = omega (arith, h .less, k .less); get = λ m b. rw (no-alloc m i ts, useType h m (omega (arith, b, k .less)), useExpr k m (omega (arith, b, h .less))) refl }
+
+down-nth : {p i j : ℕ} {e f : TreeOf EXPR} {ts us r : List Word} → Fact EXPR e ts us → Fact EXPR f us (mark kRpar j ∷ r) → Fact EXPR (nth-expr p e f) (mark kLpar p ∷ mark knth i ∷ ts) r
+unfolding descent
+down-nth {i = i} {ts = ts} h k = record { less = omega (arith, h .less, k .less); get = λ m b. rw (no-nth m i ts, useExpr h m (omega (arith, b, k .less)), useExpr k m (omega (arith, b, h .less))) refl }
+
+down-len : {p i j : ℕ} {e : TreeOf EXPR} {ts r : List Word} → Fact EXPR e ts (mark kRpar j ∷ r) → Fact EXPR (len p e) (mark kLpar p ∷ mark klen i ∷ ts) r
+unfolding descent
+down-len {i = i} {ts = ts} h = record { less = omega (arith, h .less); get = λ m b. rw (no-len m i ts, useExpr h m (omega (arith, b))) refl }
+
+down-vset : {p i j : ℕ} {e f g : TreeOf EXPR} {ts us vs r : List Word} → Fact EXPR e ts us → Fact EXPR f us vs → Fact EXPR g vs (mark kRpar j ∷ r) → Fact EXPR (vset p e f g) (mark kLpar p ∷ mark kvset i ∷ ts) r
+unfolding descent
+down-vset {i = i} {ts = ts} h k l = record { less = omega (arith, h .less, k .less, l .less); get = λ m b. rw (no-vset m i ts, useExpr h m (omega (arith, b, k .less, l .less)), useExpr k m (omega (arith, b, h .less, l .less)), useExpr l m (omega (arith, b, h .less, k .less))) refl }
+
 down-one-expr : {e : TreeOf EXPR} {ts r : List Word} → Fact EXPR e ts r → Fact EXPRS (one-expr e) ts r
 unfolding descent
 down-one-expr h = record { less = omega (arith, h .less); get = λ r′ c m b. rw (useExpr h m (omega (arith, b)), no-exprs m c) refl }
@@ -300,6 +346,7 @@ descends (r-proc-rec h k) = down-proc-rec (descends h) (descends k)
 descends r-bool = down-bool
 descends r-int = down-int
 descends (r-arrow h k) = down-arrow (descends h) (descends k)
+descends (r-vec h) = down-vec (descends h)
 descends (r-one-type h) = down-one-type (descends h)
 descends (r-more-types h k) = down-more-types (descends h) (descends k)
 descends (r-arg h) = down-arg (descends h)
@@ -325,6 +372,10 @@ descends (r-and h k) = down-and (descends h) (descends k)
 descends (r-or h k) = down-or (descends h) (descends k)
 descends (r-app h k) = down-app (descends h) (descends k)
 descends (r-abs h k) = down-abs (descends h) (descends k)
+descends (r-alloc h k) = down-alloc (descends h) (descends k)
+descends (r-nth h k) = down-nth (descends h) (descends k)
+descends (r-len h) = down-len (descends h)
+descends (r-vset h k l) = down-vset (descends h) (descends k) (descends l)
 descends (r-one-expr h) = down-one-expr (descends h)
 descends (r-more-exprs h k) = down-more-exprs (descends h) (descends k)
 

@@ -1,6 +1,6 @@
 -- What the machine reads, the grammar yields. `Item X ts r`: the words from `ts` to `r` may stand where the symbol X is on the stack.
 use mathlib.Core.Path.{_≡_, refl, sym, _∙_, ap, subst}
-use mathlib.Core.List.{List, [], _∷_, _++_}
+use mathlib.Core.List.{List, [], _∷_, _++_, map}
 use mathlib.Core.Option.{Option, none, some, Option·some-injective, Option·none-ne-some}
 use mathlib.Core.Bool.{Bool, true, false, cond}
 use lib.Dec.{eqb, eqb→eq, T}
@@ -9,22 +9,22 @@ use native.Mathlib.Omega.{arith}
 use lib.IntN.{ℤ}
 use lib.ListN.{length}
 use Rattle.language.specs.Syntax.{Ident}
-use Rattle.language.specs.Words.{Mark, kLbr, kRbr, kLpar, kRpar, kSemi, kColon, kComma, kStar, kArrow, kCONST, kFUN, kREC, kVAR, kPROC, kECHO, kSET, kIF, kWHILE, kCALL, kif, kand, kor, kbool, kint, kvar, kadr, Word, mark, number, named, place-word}
-use Rattle.language.specs.Grammar.{Sort, BLOCK, CMDS, DEF, STAT, TYPE, TYPES, ARG, ARGS, ARGP, ARGSP, EXPR, EXPRS, EXPRP, EXPRSP, TreeOf, Reads, r-block, r-last, r-def-then, r-stat-then, r-const, r-fun, r-fun-rec, r-var, r-proc, r-proc-rec, r-bool, r-int, r-arrow, r-one-type, r-more-types, r-arg, r-one-arg, r-more-args, r-val-arg, r-var-arg, r-one-argp, r-more-argsp, r-echo, r-set, r-if-stat, r-while, r-call, r-one-exprp, r-more-exprsp, r-val, r-adr, r-num, r-name, r-if-expr, r-and, r-or, r-app, r-abs, r-one-expr, r-more-exprs, Program}
+use Rattle.language.specs.Words.{Mark, kLbr, kRbr, kLpar, kRpar, kSemi, kColon, kComma, kStar, kArrow, kCONST, kFUN, kREC, kVAR, kPROC, kECHO, kSET, kIF, kWHILE, kCALL, kif, kand, kor, kbool, kint, kvar, kadr, kvec, kalloc, knth, klen, kvset, Word, mark, number, named, place-word}
+use Rattle.language.specs.Grammar.{Sort, BLOCK, CMDS, DEF, STAT, TYPE, TYPES, ARG, ARGS, ARGP, ARGSP, EXPR, EXPRS, EXPRP, EXPRSP, TreeOf, Reads, r-block, r-last, r-def-then, r-stat-then, r-const, r-fun, r-fun-rec, r-var, r-proc, r-proc-rec, r-bool, r-int, r-arrow, r-vec, r-one-type, r-more-types, r-arg, r-one-arg, r-more-args, r-val-arg, r-var-arg, r-one-argp, r-more-argsp, r-echo, r-set, r-if-stat, r-while, r-call, r-one-exprp, r-more-exprsp, r-val, r-adr, r-num, r-name, r-if-expr, r-and, r-or, r-app, r-abs, r-alloc, r-nth, r-len, r-vset, r-one-expr, r-more-exprs, Program}
 use Rattle.language.specs.Table.{Node}
-use Rattle.language.proofs.reading.Machine.{code, tNum, tName, tag, Sym, sBlock, sBody, sTail, sSemi, sCN, sCT, sExpr, sFunH, sFN, sFT, sFL, sArg1, sArg0, sColon, sType, sVN, sProcH, sPN, sPL, sArgp1, sArgp0, sVarN, sSN, sIC, sIB, sWC, sKN, sK1, sK0, sParen, sParenP, sE3, sE2, sE1, sRP, sArgs1, sArgs0, sAN, sTs1, sTs0, sTR, Ctx, Entry, ent, places, follow, Rule, rule, thn, name-rules, type-rules, block-rules, expr-rules, exprp-rules, arg-rules, argp-rules, paren-rules, adr-rules, rec-rules, args-rules, call-rules, body-rules, rules, pick, Parsed, through, stuck, parse, start, whole}
+use Rattle.language.proofs.reading.Machine.{code, tNum, tName, tag, Sym, sBlock, sBody, sTail, sSemi, sCN, sCT, sExpr, sFunH, sFN, sFT, sFL, sArg1, sArg0, sColon, sType, sVN, sProcH, sPN, sPL, sArgp1, sArgp0, sVarN, sSN, sIC, sIB, sWC, sKN, sK1, sK0, sParen, sParenP, sE3, sE2, sE1, sRP, sArgs1, sArgs0, sAN, sTs1, sTs0, sTR, sTP, sAT, Ctx, Entry, ent, places, follow, Rule, rule, thn, name-rules, type-rules, vec-rules, block-rules, expr-rules, exprp-rules, arg-rules, argp-rules, paren-rules, adr-rules, rec-rules, args-rules, call-rules, body-rules, rules, pick, Parsed, through, stuck, parse, start, whole}
 use Rattle.language.proofs.reading.Complete.{Lit, lit}
 use Rattle.language.proofs.reading.Machine
 
 -- The kinds of words are told apart by their numbers.
-nth : ℕ → List Mark → Option Mark
+nth : ℕ → List (Option Mark) → Option Mark
 nth n [] = none
-nth zero (m ∷ ms) = some m
+nth zero (m ∷ ms) = m
 nth (suc n) (m ∷ ms) = nth n ms
 
 uncode : ℕ → Option Mark
 uncode zero = none
-uncode (suc n) = nth n (kLbr ∷ kRbr ∷ kLpar ∷ kRpar ∷ kSemi ∷ kColon ∷ kComma ∷ kStar ∷ kArrow ∷ kCONST ∷ kFUN ∷ kREC ∷ kVAR ∷ kPROC ∷ kECHO ∷ kSET ∷ kIF ∷ kWHILE ∷ kCALL ∷ kif ∷ kand ∷ kor ∷ kbool ∷ kint ∷ kvar ∷ kadr ∷ [])
+uncode (suc n) = nth n (map some (kLbr ∷ kRbr ∷ kLpar ∷ kRpar ∷ kSemi ∷ kColon ∷ kComma ∷ kStar ∷ kArrow ∷ kCONST ∷ kFUN ∷ kREC ∷ kVAR ∷ kPROC ∷ kECHO ∷ kSET ∷ kIF ∷ kWHILE ∷ kCALL ∷ kif ∷ kand ∷ kor ∷ kbool ∷ kint ∷ kvar ∷ kadr ∷ []) ++ (none ∷ none ∷ map some (kvec ∷ kalloc ∷ knth ∷ klen ∷ kvset ∷ [])))
 
 uncode-code : (m : Mark) → uncode (code m) ≡ some m
 unfolding uncode nth
@@ -54,6 +54,11 @@ uncode-code kbool = refl
 uncode-code kint = refl
 uncode-code kvar = refl
 uncode-code kadr = refl
+uncode-code kvec = refl
+uncode-code kalloc = refl
+uncode-code knth = refl
+uncode-code klen = refl
+uncode-code kvset = refl
 
 uncode-number : uncode tNum ≡ none
 unfolding uncode nth
@@ -143,6 +148,8 @@ Item sAN = Then (Named) (Lit kRpar)
 Item sTs1 = Then (Is TYPES) (Then (Lit kArrow) (Then (Is TYPE) (Lit kRpar)))
 Item sTs0 = λ ts r. (z : List Word) → Is TYPE z ts → Then (Is TYPES) (Then (Lit kArrow) (Then (Is TYPE) (Lit kRpar))) z r
 Item sTR = Then (Is TYPE) (Lit kRpar)
+Item sTP = λ ts r. (p : ℕ) → Is TYPE (mark kLpar p ∷ ts) r
+Item sAT = Then (Is TYPE) (Then (Is EXPR) (Lit kRpar))
 
 data Nil : List Word → Type 0 where
   nil : Nil []
@@ -195,6 +202,9 @@ heads1 X Y A j (rule k a f ns ∷ rs) h = (
 arrow-of : {p : ℕ} {ts r : List Word} → Item sTs1 ts r → Is TYPE (mark kLpar p ∷ ts) r
 arrow-of (is a ⨟ lit ⨟ is t ⨟ lit) = is (r-arrow a t)
 
+vec-type : {p i : ℕ} {ts r : List Word} → Item sTR ts r → Is TYPE (mark kLpar p ∷ mark kvec i ∷ ts) r
+vec-type (is t ⨟ lit) = is (r-vec t)
+
 types-more : {p : ℕ} {z ts r : List Word} → Item sTs1 ts r → Is TYPE z (mark kStar p ∷ ts) → Item sTs1 z r
 types-more (is a ⨟ k) (is t) = is (r-more-types t a) ⨟ k
 
@@ -242,6 +252,18 @@ and-of (is e ⨟ is f ⨟ lit) = is (r-and e f)
 
 or-of : {p i : ℕ} {ts r : List Word} → Item sE2 ts r → Is EXPR (mark kLpar p ∷ mark kor i ∷ ts) r
 or-of (is e ⨟ is f ⨟ lit) = is (r-or e f)
+
+alloc-of : {p i : ℕ} {ts r : List Word} → Item sAT ts r → Is EXPR (mark kLpar p ∷ mark kalloc i ∷ ts) r
+alloc-of (is t ⨟ is e ⨟ lit) = is (r-alloc t e)
+
+nth-of : {p i : ℕ} {ts r : List Word} → Item sE2 ts r → Is EXPR (mark kLpar p ∷ mark knth i ∷ ts) r
+nth-of (is e ⨟ is f ⨟ lit) = is (r-nth e f)
+
+len-of : {p i : ℕ} {ts r : List Word} → Item sE1 ts r → Is EXPR (mark kLpar p ∷ mark klen i ∷ ts) r
+len-of (is e ⨟ lit) = is (r-len e)
+
+vset-of : {p i : ℕ} {ts r : List Word} → Item sE3 ts r → Is EXPR (mark kLpar p ∷ mark kvset i ∷ ts) r
+vset-of (is e ⨟ is f ⨟ is g ⨟ lit) = is (r-vset e f g)
 
 adr-of : {p i : ℕ} {ts r : List Word} → Item sAN ts r → Is EXPRP (mark kLpar p ∷ mark kadr i ∷ ts) r
 adr-of (nm ⨟ lit) = is r-adr
@@ -316,7 +338,7 @@ name-heads : All (Heads (Named)) name-rules
 name-heads = ((by-name _ (λ x n q u s ts h. nm ▸ h)), tt)
 
 type-heads : All (Heads (Is TYPE)) type-rules
-type-heads = ((by-mark kbool _ (λ p n q u s ts h. is r-bool ▸ h)), ((by-mark kint _ (λ p n q u s ts h. is r-int ▸ h)), ((by-mark kLpar _ (λ p n q u s ts h. over (λ r a. arrow-of a) h)), tt)))
+type-heads = ((by-mark kbool _ (λ p n q u s ts h. is r-bool ▸ h)), ((by-mark kint _ (λ p n q u s ts h. is r-int ▸ h)), ((by-mark kLpar _ (λ p n q u s ts h. over (λ r a. a p) h)), tt)))
 
 block-heads : All (Heads (Is BLOCK)) block-rules
 block-heads = ((by-mark kLbr _ (λ p n q u s ts h. over (λ r a. block-of a) h)), tt)
@@ -349,7 +371,19 @@ pure1 X Y A rs j h = all-append (Good X) (thn (some Y) rs) [] (heads1 X Y A j rs
 paren-good : All (Good sParen) paren-rules
 paren-good = (
   (by-mark kif _ (λ p n q u s ts h. over (λ r a i. if-of a) h)),
-  ((by-mark kand _ (λ p n q u s ts h. over (λ r a i. and-of a) h)), ((by-mark kor _ (λ p n q u s ts h. over (λ r a i. or-of a) h)), tt)),
+  (
+    (by-mark kand _ (λ p n q u s ts h. over (λ r a i. and-of a) h)),
+    (
+      (by-mark kor _ (λ p n q u s ts h. over (λ r a i. or-of a) h)),
+      (
+        (by-mark kalloc _ (λ p n q u s ts h. over (λ r a i. alloc-of a) h)),
+        (
+          (by-mark knth _ (λ p n q u s ts h. over (λ r a i. nth-of a) h)),
+          ((by-mark klen _ (λ p n q u s ts h. over (λ r a i. len-of a) h)), ((by-mark kvset _ (λ p n q u s ts h. over (λ r a i. vset-of a) h)), tt)),
+        ),
+      ),
+    ),
+  ),
 )
 
 parenp-good : All (Good sParenP) adr-rules
@@ -357,7 +391,19 @@ parenp-good = (
   (by-mark kadr _ (λ p n q u s ts h. over (λ r a i. adr-of a) h)),
   (
     (by-mark kif _ (λ p n q u s ts h. over (λ r a i. val-of (if-of a)) h)),
-    ((by-mark kand _ (λ p n q u s ts h. over (λ r a i. val-of (and-of a)) h)), ((by-mark kor _ (λ p n q u s ts h. over (λ r a i. val-of (or-of a)) h)), tt)),
+    (
+      (by-mark kand _ (λ p n q u s ts h. over (λ r a i. val-of (and-of a)) h)),
+      (
+        (by-mark kor _ (λ p n q u s ts h. over (λ r a i. val-of (or-of a)) h)),
+        (
+          (by-mark kalloc _ (λ p n q u s ts h. over (λ r a i. val-of (alloc-of a)) h)),
+          (
+            (by-mark knth _ (λ p n q u s ts h. over (λ r a i. val-of (nth-of a)) h)),
+            ((by-mark klen _ (λ p n q u s ts h. over (λ r a i. val-of (len-of a)) h)), ((by-mark kvset _ (λ p n q u s ts h. over (λ r a i. val-of (vset-of a)) h)), tt)),
+          ),
+        ),
+      ),
+    ),
   ),
 )
 
@@ -439,6 +485,11 @@ good sAN = pure1 sAN sRP (Named) name-rules (λ ts r a. a) name-heads
 good sTs1 = pure1 sTs1 sTs0 (Is TYPE) type-rules (λ ts r a. elim a [ b ⨟ k ↦ k _ b ]) type-heads
 good sTs0 = ((by-mark kStar _ (λ p n q u s ts h. over (λ r a z b. types-more a b) h)), ((by-mark kArrow _ (λ p n q u s ts h. over (λ r a z b. types-end a b) h)), tt))
 good sTR = pure1 sTR sRP (Is TYPE) type-rules (λ ts r a. a) type-heads
+good sTP =
+    all-append (Good sTP) (thn (some sTs0) type-rules) vec-rules
+    (heads1 sTP sTs0 (Is TYPE) (λ ts r a. elim a [ b ⨟ k ↦ λ p. arrow-of (k _ b) ]) type-rules type-heads)
+    ((by-mark kvec _ (λ p n q u s ts h. over (λ r a i. vec-type a) h)), tt)
+good sAT = pure1 sAT sE1 (Is TYPE) type-rules (λ ts r a. a) type-heads
 
 abbrev Best : Word → Sym → Rule → Type 0
 Best x X (rule j a f ns) = (n q : ℕ) (u : Ctx) (s : List Entry) (ts : List Word) → Fits (places f n q u (follow ns n u s)) ts → Fits (ent X q u ∷ s) (x ∷ ts)

@@ -3,7 +3,7 @@ use mathlib.Core.Path.{_≡_}
 use mathlib.Core.List.{List, [], _∷_}
 use Prim.Native.Nat.{ℕ}
 use lib.ListN.{drop}
-use Rattle.language.specs.Syntax.{Arg, arg, ArgP, val-arg, var-arg, Expr, num, name, if-expr, and, or, app, abs, Exprs, one-expr, more-exprs, ExprP, val, adr, Cmds, last, def-then, stat-then, Def, const, fun, fun-rec, var, proc, proc-rec, Stat, echo, set, if-stat, while, call, Block, block}
+use Rattle.language.specs.Syntax.{Arg, arg, ArgP, val-arg, var-arg, Expr, num, name, if-expr, and, or, app, abs, alloc, nth-expr, len, vset, Exprs, one-expr, more-exprs, ExprP, val, adr, Cmds, last, def-then, stat-then, Def, const, fun, fun-rec, var, proc, proc-rec, Stat, echo, set, if-stat, while, call, Block, block}
 use Rattle.language.specs.Words.{Word, number, named, place-word, word, front}
 
 -- A word stands in a text: it is what begins there at its place.
@@ -39,6 +39,10 @@ unfoldable mutual
   inExpr (or p e f) P = inExpr e P × inExpr f P
   inExpr (app p e a) P = inExpr e P × inExprs a P
   inExpr (abs p a e) P = inArgs a P × inExpr e P
+  inExpr (alloc p t e) P = inExpr e P
+  inExpr (nth-expr p e f) P = inExpr e P × inExpr f P
+  inExpr (len p e) P = inExpr e P
+  inExpr (vset p e f g) P = inExpr e P × inExpr f P × inExpr g P
 
   pub inExprs : Exprs → (Word → Type 0) → Type 0
   inExprs (one-expr e) P = inExpr e P

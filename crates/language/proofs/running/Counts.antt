@@ -7,13 +7,13 @@ use mathlib.Core.List.{List, [], _∷_, _++_}
 use mathlib.Core.Option.{Option, none, some}
 use lib.Dec.{T, ltb, leb, leb→le, ltb→lt, nltb→le}
 use lib.IntN.{ℤ}
-use lib.ListN.{length, length-append}
-use Rattle.language.specs.Syntax.{at, arg, Expr, num, name, if-expr, and, or, app, abs, Exprs, one-expr, more-exprs, ExprP, val, adr, Cmds, last, def-then, stat-then, Def, const, fun, fun-rec, var, proc, proc-rec, Stat, echo, set, if-stat, while, call, Block, block}
-use Rattle.language.specs.Answers.{LimitStop, FUEL, DEPTH, CELLS, BINDINGS, OUTPUT, ErrorStop, UNSET, limit, error}
+use lib.ListN.{length, length-append, replicate, length-replicate}
+use Rattle.language.specs.Syntax.{at, arg, Expr, num, name, if-expr, and, or, app, abs, alloc, nth-expr, len, vset, Exprs, one-expr, more-exprs, ExprP, val, adr, Cmds, last, def-then, stat-then, Def, const, fun, fun-rec, var, proc, proc-rec, Stat, echo, set, if-stat, while, call, Block, block}
+use Rattle.language.specs.Answers.{LimitStop, FUEL, DEPTH, CELLS, BINDINGS, OUTPUT, ErrorStop, UNSET, SIZE, INDEX, limit, error}
 use Rattle.language.specs.Names.{Op, Meaning, literal, operator, free, meaning, head-operator}
 use Rattle.language.specs.Numbers.{Computed, amount, fails}
 use Rattle.language.specs.Limits.{Limits}
-use Rattle.language.specs.Rules.{Val, inZ, inF, inFR, inP, inPR, inA, Env, empty, State, Why, stop, no-rule, Outcome, ok, halt, bind, need, within, branch, take-unit, take-bindings, with-cells, put-out, enter, make, look, store, give, give-cell, Level, exprs, args, cmds, in-block, read, name-rule, apply-rule, expr-rule, arg-rule, def-rule, rounds, stat-rule, step, level, start, run}
+use Rattle.language.specs.Rules.{Val, inZ, inF, inFR, inP, inPR, inA, inB, Env, empty, State, Why, stop, no-rule, Outcome, ok, halt, bind, need, otherwise, within, branch, take-unit, take-bindings, with-cells, put-out, enter, make, look, nth, behind, store, as-size, cell-in, give, give-cell, Level, exprs, args, cmds, in-block, read, name-rule, apply-rule, alloc-rule, element-rule, expr-rule, arg-rule, def-rule, rounds, stat-rule, step, level, start, run}
 use Rattle.language.specs.Outcome.{state-of}
 use Rattle.language.specs.Claims.{InLimits, UsedUp}
 use Rattle.language.proofs.running.Cells.{length-store}
@@ -24,11 +24,12 @@ pub record Inv (L : Limits) (I : State → Type 0) (H : Why → State → Type 0
   pub on-unit : (s : State) → T (ltb (s .units) (L .fuel)) → I s → I (take-unit s)
   pub on-bindings : (n : ℕ) (s : State) → T (leb (n + s .bindings) (L .bindings)) → I s → I (take-bindings n s)
   pub on-cell : (s : State) → T (ltb (length (s .cells)) (L .cells)) → I s → I (with-cells (s .cells ++ none ∷ []) s)
+  pub on-cells : (n : ℕ) (s : State) → T (leb (n + length (s .cells)) (L .cells)) → I s → I (with-cells (s .cells ++ replicate n none) s)
   pub on-store : (s : State) (a : ℕ) (v : Val) (c : List (Option Val)) → store (s .cells) a v ≡ some c → I s → I (with-cells c s)
   pub on-number : (n : ℤ) (s : State) → T (ltb (length (s .numbers)) (L .output)) → I s → I (put-out n s)
   pub at-fuel : (s : State) → T (notb (ltb (s .units) (L .fuel))) → I s → H (stop (limit FUEL)) s
   pub at-depth : (s : State) → I s → H (stop (limit DEPTH)) s
-  pub at-cells : (s : State) → T (notb (ltb (length (s .cells)) (L .cells))) → I s → H (stop (limit CELLS)) s
+  pub at-cells : (s : State) → I s → H (stop (limit CELLS)) s
   pub at-bindings : (s : State) → I s → H (stop (limit BINDINGS)) s
   pub at-output : (s : State) → T (notb (ltb (length (s .numbers)) (L .output))) → I s → H (stop (limit OUTPUT)) s
   pub at-error : (x : ErrorStop) (s : State) → I s → H (stop (error x)) s
@@ -74,6 +75,12 @@ module _ (L : Limits) {I : State → Type 0} {H : Why → State → Type 0} (W :
   keeps-need none p s i f = kHalt (W .at-no-rule s i)
   keeps-need (some a) p s i f = f a refl
 
+  keeps-otherwise : {A B : Type 0} (o : Option A) (x : ErrorStop) (p : ℕ) (s : State) {k : A → Outcome B} → I s → ((a : A) → Keeps I H (k a)) →
+      Keeps I H (otherwise o x p s k)
+  unfolding otherwise
+  keeps-otherwise none x p s i f = kHalt (W .at-error x s i)
+  keeps-otherwise (some a) x p s i f = f a
+
   keeps-give : (c : Computed) (p : ℕ) (s : State) → I s → Keeps I H (give c p s)
   unfolding give
   keeps-give (amount n) p s i = kOk i
@@ -91,6 +98,7 @@ module _ (L : Limits) {I : State → Type 0} {H : Why → State → Type 0} (W :
   keeps-read (inP b xs ρ) p s i = kOk i
   keeps-read (inPR b f xs ρ) p s i = kOk i
   keeps-read (inA a) p s i = keeps-need _ p s i λ c _. keeps-cell c p s i
+  keeps-read (inB a n) p s i = kOk i
 
   keeps-name : (m : Meaning) (o : Option Val) (p : ℕ) (s : State) → I s → Keeps I H (name-rule m o p s)
   keeps-name (literal b) o p s i = kOk i
@@ -102,6 +110,12 @@ module _ (L : Limits) {I : State → Type 0} {H : Why → State → Type 0} (W :
 
   make-k : {A : Type 0} (n p : ℕ) (s : State) {o : Outcome A} → I s → (I (take-bindings n s) → Keeps I H o) → Keeps I H (make L n p s (λ _. o))
   make-k n p s i f = keeps-within _ _ p s (λ b. W .at-bindings s i) λ b. f (W .on-bindings n s b i)
+
+  alloc-k : (p : ℕ) (n : ℤ) (s : State) → I s → Keeps I H (alloc-rule L p n s)
+  alloc-k p n s i = keeps-otherwise _ _ p s i λ k. keeps-within _ _ p s (λ b. W .at-cells s i) λ b. kOk (W .on-cells k s b i)
+
+  element-k : (p : ℕ) (v w : Val) (s : State) {k : ℕ → Outcome Val} → I s → ((a : ℕ) → Keeps I H (k a)) → Keeps I H (element-rule p v w s k)
+  element-k p v w s i f = keeps-need _ p s i λ b _. keeps-need _ p s i λ n _. keeps-otherwise _ _ p s i f
 
   -- the count of the rounds never runs out: each takes a unit, and there are no more than the fuel
   rounds-k : (n : ℕ) (test : State → Outcome Val) (run : State → Outcome (Unit {0})) →
@@ -142,6 +156,12 @@ module _ (L : Limits) {I : State → Type 0} {H : Why → State → Type 0} (W :
     expr-k (or p a b) ρ s i = keeps-bind (h .expr-keeps a ρ s i) λ v s₁ i₁. keeps-need _ p s₁ i₁ λ t _. keeps-branch t (kOk i₁) (h .expr-keeps b ρ s₁ i₁)
     expr-k (app p f es) ρ s i = apply-k (head-operator f) p f es ρ s i
     expr-k (abs p ps e) ρ s i = kOk i
+    expr-k (alloc p t e) ρ s i = keeps-bind (h .expr-keeps e ρ s i) λ v s₁ i₁. keeps-need _ p s₁ i₁ λ n _. alloc-k p n s₁ i₁
+    expr-k (nth-expr p a b) ρ s i = keeps-bind (h .expr-keeps a ρ s i) λ v s₁ i₁. keeps-bind (h .expr-keeps b ρ s₁ i₁) λ w s₂ i₂.
+        element-k p v w s₂ i₂ λ k. keeps-need _ p s₂ i₂ λ c _. keeps-cell c p s₂ i₂
+    expr-k (len p a) ρ s i = keeps-bind (h .expr-keeps a ρ s i) λ v s₁ i₁. keeps-need _ p s₁ i₁ λ k _. kOk i₁
+    expr-k (vset p a b c) ρ s i = keeps-bind (h .expr-keeps a ρ s i) λ v s₁ i₁. keeps-bind (h .expr-keeps b ρ s₁ i₁) λ w s₂ i₂.
+        keeps-bind (h .expr-keeps c ρ s₂ i₂) λ u s₃ i₃. element-k p v w s₃ i₃ λ k. keeps-need _ p s₃ i₃ λ cs m. kOk (W .on-store s₃ k u cs m i₃)
 
     arg-k : (a : ExprP) (ρ : Env) (s : State) → I s → Keeps I H (arg-rule L r a ρ s)
     arg-k (val e) ρ s i = expr-k e ρ s i
@@ -151,7 +171,7 @@ module _ (L : Limits) {I : State → Type 0} {H : Why → State → Type 0} (W :
     def-k (const p (at q x) t e) ρ s i = keeps-bind (h .expr-keeps e ρ s i) λ v s₁ i₁. make-k 1 p s₁ i₁ λ i₂. kOk i₂
     def-k (fun p (at q x) t ps e) ρ s i = make-k 1 p s i λ i₁. kOk i₁
     def-k (fun-rec p (at q x) t ps e) ρ s i = make-k 1 p s i λ i₁. kOk i₁
-    def-k (var p (at q x) t) ρ s i = keeps-within _ _ p s (λ b. W .at-cells s b i) λ b. make-k 1 p (with-cells (s .cells ++ none ∷ []) s) (W .on-cell s b i) λ i₁. kOk i₁
+    def-k (var p (at q x) t) ρ s i = keeps-within _ _ p s (λ b. W .at-cells s i) λ b. make-k 1 p (with-cells (s .cells ++ none ∷ []) s) (W .on-cell s b i) λ i₁. kOk i₁
     def-k (proc p (at q x) ps b) ρ s i = make-k 1 p s i λ i₁. kOk i₁
     def-k (proc-rec p (at q x) ps b) ρ s i = make-k 1 p s i λ i₁. kOk i₁
 
@@ -191,7 +211,7 @@ module _ (L : Limits) {I : State → Type 0} {H : Why → State → Type 0} (W :
 -- where a limit stops a run, the limit is used up
 pub data StopsAt (L : Limits) : Why → State → Type 0 where
   out-of-fuel : {s : State} → s .units ≡ L .fuel → StopsAt L (stop (limit FUEL)) s
-  out-of-cells : {s : State} → length (s .cells) ≡ L .cells → StopsAt L (stop (limit CELLS)) s
+  no-cells : {s : State} → StopsAt L (stop (limit CELLS)) s
   out-of-output : {s : State} → length (s .numbers) ≡ L .output → StopsAt L (stop (limit OUTPUT)) s
   too-deep : {s : State} → StopsAt L (stop (limit DEPTH)) s
   no-bindings : {s : State} → StopsAt L (stop (limit BINDINGS)) s
@@ -211,6 +231,12 @@ limits-kept L = record {
     numbers-in = i .numbers-in;
     cells-in = omega (arith, length-append (s .cells) (none ∷ []), ltb→lt (length (s .cells)) (L .cells) b);
   };
+  on-cells = λ n s b i. record {
+    units-in = i .units-in;
+    bindings-in = i .bindings-in;
+    numbers-in = i .numbers-in;
+    cells-in = omega (arith, length-append (s .cells) (replicate n none), length-replicate {A = Option Val} n none, leb→le (n + length (s .cells)) (L .cells) b);
+  };
   on-store = λ s a v c q i. record {
     units-in = i .units-in;
     bindings-in = i .bindings-in;
@@ -225,7 +251,7 @@ limits-kept L = record {
   };
   at-fuel = λ s b i. (i, out-of-fuel (full (s .units) (L .fuel) (i .units-in) b));
   at-depth = λ s i. (i, too-deep);
-  at-cells = λ s b i. (i, out-of-cells (full (length (s .cells)) (L .cells) (i .cells-in) b));
+  at-cells = λ s i. (i, no-cells);
   at-bindings = λ s i. (i, no-bindings);
   at-output = λ s b i. (i, out-of-output (full (length (s .numbers)) (L .output) (i .numbers-in) b));
   at-error = λ x s i. (i, by-error);
@@ -246,7 +272,7 @@ used-up {L} (halt w p s) (kHalt i) = go (i .1)
   where
     go : {w : Why} → StopsAt L w s → UsedUp L (halt w p s)
     go (out-of-fuel e) = e
-    go (out-of-cells e) = e
+    go no-cells = tt
     go (out-of-output e) = e
     go too-deep = tt
     go no-bindings = tt

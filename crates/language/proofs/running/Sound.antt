@@ -1,22 +1,24 @@
 -- A typable program never reaches a state that no rule fits.
 use mathlib.Core.Path.{_≡_, refl, sym, ap, subst}
-use Prim.Native.Nat.{ℕ, zero, suc}
+use Prim.Native.Nat.{ℕ, zero, suc, _+_, _<_}
+use native.Mathlib.Nat.{le-of-suc-le-suc, not-suc-le-zero}
+use native.Mathlib.Omega.{arith}
 use mathlib.Core.Bool.{Bool, true, false, cond}
 use mathlib.Core.List.{List, [], _∷_, _++_}
 use mathlib.Core.Option.{Option, none, some, Option·none-ne-some, Option·some-injective}
-use lib.Dec.{ltb}
+use lib.Dec.{T, leb, ltb, ltb→lt}
 use lib.IntN.{ℤ, pos, negsuc, _+ℤ_, _-ℤ_, _*ℤ_}
 use lib.Signed.{ltZ}
-use lib.ListN.{length}
+use lib.ListN.{length, replicate}
 use Rattle.language.specs.Syntax.{Name, Arg, arg, ArgP, Expr, Exprs, ExprP, Cmds, Def, Stat, Block}
 use Rattle.language.specs.Bytes.{same-bytes}
-use Rattle.language.specs.Answers.{LimitStop, CELLS, ErrorStop}
+use Rattle.language.specs.Answers.{LimitStop, CELLS, ErrorStop, SIZE, INDEX}
 use Rattle.language.specs.Names.{Op, not, eq, lt, add, sub, mul, div, Meaning, literal, operator, free, lookup, meaning, unless-nine, head-operator}
 use Rattle.language.specs.Numbers.{in-range, quotient, Computed, amount, fails, ranged, same-number, bit, as-bit, negated}
-use Rattle.language.specs.Types.{Base, boolean, integer, Ty, base, fn, Tys, tnil, tcons, BOOL, typeOf, Par, value, ref, Entity, plain, procedure, Ctx, find, extend, values, par, pars, param-name, param-names, declared, arg-types, takes, result}
-use Rattle.language.specs.Typing.{IsBase, HasE, NUM, LITERAL, IDV, IDR, IF, AND, OR, PRIM, APP, ABS, HasEs, ONE, MORE, HasA, REF, VAL, HasAs, NO-ARGS, ARGS, HasB, BLOC, HasC, DECS, STATS, END, HasD, CONST, FUN, FUNREC, VAR, PROC, PROCREC, HasS, ECHO, SET, IFS, WHILE, CALL, Typable}
+use Rattle.language.specs.Types.{Base, boolean, integer, Ty, base, fn, vec-of, Tys, tnil, tcons, BOOL, INT, typeOf, Par, value, ref, Entity, plain, procedure, Ctx, find, extend, values, par, pars, param-name, param-names, declared, arg-types, takes, result}
+use Rattle.language.specs.Typing.{HasE, NUM, LITERAL, IDV, IDR, IF, AND, OR, PRIM, APP, ABS, ALLOC, NTH, LEN, VSET, HasEs, ONE, MORE, HasA, REF, VAL, HasAs, NO-ARGS, ARGS, HasB, BLOC, HasC, DECS, STATS, END, HasD, CONST, FUN, FUNREC, VAR, PROC, PROCREC, HasS, ECHO, SET, IFS, WHILE, CALL, Typable}
 use Rattle.language.specs.Limits.{Limits}
-use Rattle.language.specs.Rules.{Val, inZ, inF, inFR, inP, inPR, inA, Env, empty, bound, State, Why, stop, no-rule, Outcome, ok, halt, bind, need, within, branch, take-unit, with-cells, make, lookup-env, look, bind-all, nth, behind, store, as-number, as-truth, as-address, operate, Entered, entering, also, open-function, open-procedure, give, give-cell, Level, exprs, args, cmds, in-block, read, name-rule, apply-rule, expr-rule, arg-rule, def-rule, rounds, stat-rule, step, level, start, run}
+use Rattle.language.specs.Rules.{Val, inZ, inF, inFR, inP, inPR, inA, inB, Env, empty, bound, State, Why, stop, no-rule, Outcome, ok, halt, bind, need, otherwise, within, branch, take-unit, with-cells, make, lookup-env, look, bind-all, nth, behind, store, as-number, as-truth, as-address, as-block, as-size, cell-in, operate, Entered, entering, also, open-function, open-procedure, give, give-cell, Level, exprs, args, cmds, in-block, read, name-rule, apply-rule, alloc-rule, element-rule, expr-rule, arg-rule, def-rule, rounds, stat-rule, step, level, start, run}
 use Rattle.language.specs.Claims.{NoRule}
 use Rattle.language.proofs.typing.Names.{Has, has, head-typed}
 
@@ -24,11 +26,11 @@ use Rattle.language.proofs.typing.Names.{Has, has, head-typed}
 
 -- what each cell may hold
 abbrev pub StoreT : Type 0
-StoreT = List Base
+StoreT = List Ty
 
 -- a store that has grown: what was known of a cell still holds
 pub record Ext (S S′ : StoreT) : Type 0 where
-  pub keeps : (a : ℕ) (b : Base) → nth S a ≡ some b → nth S′ a ≡ some b
+  pub keeps : (a : ℕ) (t : Ty) → nth S a ≡ some t → nth S′ a ≡ some t
 
 abbrev pub IsBit : ℤ → Type 0
 IsBit (pos zero) = Unit {0}
@@ -56,6 +58,10 @@ abbrev pub entities-in : List (Name × Entity) → List Entity
 entities-in [] = []
 entities-in (d ∷ ds) = d .1 ∷ entities-in ds
 
+-- the cells of a block are all of its type
+abbrev pub BlockT : StoreT → Ty → ℕ × ℕ → Type 0
+BlockT S t k = (i : ℕ) → i < k .1 → nth S (k .0 + i) ≡ some t
+
 mutual
   pub data VT (S : StoreT) : Val → Entity → Type 0 where
     vZ : {n : ℤ} {b : Base} → NumOf b n → VT S (inZ n) (plain (value (base b)))
@@ -67,7 +73,8 @@ mutual
         names-in ds ≡ xs → entities-in ds ≡ plains qs → HasB (extend ds Γ) c → VT S (inP c xs ρ) (procedure qs)
     vPR : {f : Name} {xs : List Name} {c : Block} {ρ : Env} {qs : List Par} (Γ : Ctx) (ds : List (Name × Entity)) → EnvT S ρ Γ →
         names-in ds ≡ xs → entities-in ds ≡ plains qs → HasB ((f, procedure qs) ∷ extend ds Γ) c → VT S (inPR c f xs ρ) (procedure qs)
-    vA : {a : ℕ} {b : Base} → nth S a ≡ some b → VT S (inA a) (plain (ref (base b)))
+    vA : {a : ℕ} {t : Ty} → nth S a ≡ some t → VT S (inA a) (plain (ref t))
+    vB : {a n : ℕ} {t : Ty} → BlockT S t (a, n) → VT S (inB a n) (plain (value (vec-of t)))
 
   pub data EnvT (S : StoreT) : Env → Ctx → Type 0 where
     tnone : EnvT S empty []
@@ -78,13 +85,13 @@ pub data VTs (S : StoreT) : List Val → List Entity → Type 0 where
   vcons : {v : Val} {vs : List Val} {τ : Entity} {τs : List Entity} → VT S v τ → VTs S vs τs → VTs S (v ∷ vs) (τ ∷ τs)
 
 -- a cell is unset, or holds a value of its type
-pub data CellT (S : StoreT) (b : Base) : Option Val → Type 0 where
-  unset : CellT S b none
-  holds : {v : Val} → VT S v (plain (value (base b))) → CellT S b (some v)
+pub data CellT (S : StoreT) (t : Ty) : Option Val → Type 0 where
+  unset : CellT S t none
+  holds : {v : Val} → VT S v (plain (value t)) → CellT S t (some v)
 
 pub data CellsT (S : StoreT) : StoreT → List (Option Val) → Type 0 where
   cnil : CellsT S [] []
-  ccons : {b : Base} {R : StoreT} {c : Option Val} {cs : List (Option Val)} → CellT S b c → CellsT S R cs → CellsT S (b ∷ R) (c ∷ cs)
+  ccons : {t : Ty} {R : StoreT} {c : Option Val} {cs : List (Option Val)} → CellT S t c → CellsT S R cs → CellsT S (t ∷ R) (c ∷ cs)
 
 abbrev pub StoreOk : StoreT → List (Option Val) → Type 0
 StoreOk S cs = CellsT S S cs
@@ -98,12 +105,13 @@ module _ {S S′ : StoreT} (le : Ext S S′) where
     vt-ext (vP Γ ds h p q d) = vP Γ ds (env-ext h) p q d
     vt-ext (vPR Γ ds h p q d) = vPR Γ ds (env-ext h) p q d
     vt-ext (vA h) = vA (le .keeps _ _ h)
+    vt-ext (vB h) = vB (λ i l. le .keeps _ _ (h i l))
 
     env-ext : {ρ : Env} {Γ : Ctx} → EnvT S ρ Γ → EnvT S′ ρ Γ
     env-ext tnone = tnone
     env-ext (tbound h r) = tbound (vt-ext h) (env-ext r)
 
-  cell-ext : {b : Base} {c : Option Val} → CellT S b c → CellT S′ b c
+  cell-ext : {t : Ty} {c : Option Val} → CellT S t c → CellT S′ t c
   cell-ext unset = unset
   cell-ext (holds h) = holds (vt-ext h)
 
@@ -143,6 +151,12 @@ module _ {A B : Type 0} {P : A → Type 0} {Q : StoreT → B → Type 0} {S : St
   good-need : {o : Option A} (p : ℕ) (s : State) {k : A → Outcome B} → Has P o → ((a : A) → P a → Good Q S (k a)) → Good Q S (need o p s k)
   unfolding need
   good-need p s (has {a = a} h) f = f a h
+
+module _ {A B : Type 0} {Q : StoreT → B → Type 0} {S : StoreT} where
+  good-otherwise : (o : Option A) (x : ErrorStop) (p : ℕ) (s : State) {k : A → Outcome B} → ((a : A) → o ≡ some a → Good Q S (k a)) → Good Q S (otherwise o x p s k)
+  unfolding otherwise
+  good-otherwise none x p s f = ruled tt
+  good-otherwise (some a) x p s f = f a refl
 
 module _ {B : Type 0} {Q : StoreT → B → Type 0} {S : StoreT} where
   good-within : (b : Bool) (l : LimitStop) (p : ℕ) (s : State) {o : Outcome B} → Good Q S o → Good Q S (within b l p s o)
@@ -189,39 +203,49 @@ look-ok x r e = unless-ok (meaning x) (lookup-ok x r) e
 
 -- ---- cells
 
-cell-ok : {S R : StoreT} {cs : List (Option Val)} {b : Base} (a : ℕ) → CellsT S R cs → nth R a ≡ some b → Has (λ c. CellT S b c) (nth cs a)
+cell-ok : {S R : StoreT} {cs : List (Option Val)} {t : Ty} (a : ℕ) → CellsT S R cs → nth R a ≡ some t → Has (λ c. CellT S t c) (nth cs a)
 cell-ok a cnil e = absurd (Option·none-ne-some _ e)
-cell-ok {S = S} zero (ccons {c = c} h r) e = has (subst (λ b. CellT S b c) (Option·some-injective _ _ e) h)
+cell-ok {S = S} zero (ccons {c = c} h r) e = has (subst (λ t. CellT S t c) (Option·some-injective _ _ e) h)
 cell-ok (suc a) (ccons h r) e = cell-ok a r e
 
-store-ok : {S R : StoreT} {cs : List (Option Val)} {b : Base} (a : ℕ) {v : Val} → VT S v (plain (value (base b))) → CellsT S R cs → nth R a ≡ some b →
+store-ok : {S R : StoreT} {cs : List (Option Val)} {t : Ty} (a : ℕ) {v : Val} → VT S v (plain (value t)) → CellsT S R cs → nth R a ≡ some t →
     Has (λ cs′. CellsT S R cs′) (store cs a v)
 store-ok a m cnil e = absurd (Option·none-ne-some _ e)
-store-ok {S = S} zero {v = v} m (ccons h r) e = has (ccons (holds (subst (λ b. VT S v (plain (value (base b)))) (sym (Option·some-injective _ _ e)) m)) r)
-store-ok {S = S} (suc a) m (ccons {b = b₀} {R = R} {c = c} h r) e = go (store-ok a m r e)
+store-ok {S = S} zero {v = v} m (ccons h r) e = has (ccons (holds (subst (λ t. VT S v (plain (value t))) (sym (Option·some-injective _ _ e)) m)) r)
+store-ok {S = S} (suc a) m (ccons {t = t₀} {R = R} {c = c} h r) e = go (store-ok a m r e)
   where
-    go : {o : Option (List (Option Val))} → Has (λ cs′. CellsT S R cs′) o → Has (λ cs′. CellsT S (b₀ ∷ R) cs′) (behind c o)
+    go : {o : Option (List (Option Val))} → Has (λ cs′. CellsT S R cs′) o → Has (λ cs′. CellsT S (t₀ ∷ R) cs′) (behind c o)
     go (has k) = has (ccons h k)
 
--- a fresh cell
-nth-grow : (S : StoreT) (b : Base) (a : ℕ) (c : Base) → nth S a ≡ some c → nth (S ++ b ∷ []) a ≡ some c
-nth-grow [] b a c e = absurd (Option·none-ne-some _ e)
-nth-grow (x ∷ S) b zero c e = e
-nth-grow (x ∷ S) b (suc a) c e = nth-grow S b a c e
+-- fresh cells
+nth-grow : (S R : StoreT) (a : ℕ) (t : Ty) → nth S a ≡ some t → nth (S ++ R) a ≡ some t
+nth-grow [] R a t e = absurd (Option·none-ne-some _ e)
+nth-grow (x ∷ S) R zero t e = e
+nth-grow (x ∷ S) R (suc a) t e = nth-grow S R a t e
 
-grow : {S : StoreT} (b : Base) → Ext S (S ++ b ∷ [])
-grow {S} b = record { keeps = λ a c e. nth-grow S b a c e }
+grow : {S : StoreT} (R : StoreT) → Ext S (S ++ R)
+grow {S} R = record { keeps = λ a t e. nth-grow S R a t e }
 
-more-cells : {S R : StoreT} {cs : List (Option Val)} (b : Base) → CellsT S R cs → CellsT S (R ++ b ∷ []) (cs ++ none ∷ [])
-more-cells b cnil = ccons unset cnil
-more-cells b (ccons h r) = ccons h (more-cells b r)
+fresh-cells : {S : StoreT} (n : ℕ) (t : Ty) → CellsT S (replicate n t) (replicate n none)
+fresh-cells zero t = cnil
+fresh-cells (suc n) t = ccons unset (fresh-cells n t)
 
-grow-ok : {S : StoreT} {cs : List (Option Val)} (b : Base) → StoreOk S cs → StoreOk (S ++ b ∷ []) (cs ++ none ∷ [])
-grow-ok b k = more-cells b (cells-ext (grow b) k)
+more-cells : {S R : StoreT} {cs : List (Option Val)} (n : ℕ) (t : Ty) → CellsT S R cs → CellsT S (R ++ replicate n t) (cs ++ replicate n none)
+more-cells n t cnil = fresh-cells n t
+more-cells n t (ccons h r) = ccons h (more-cells n t r)
 
-new-cell : {S R : StoreT} {cs : List (Option Val)} (b : Base) → CellsT S R cs → nth (R ++ b ∷ []) (length cs) ≡ some b
-new-cell b cnil = refl
-new-cell b (ccons h r) = new-cell b r
+grow-ok : {S : StoreT} {cs : List (Option Val)} (n : ℕ) (t : Ty) → StoreOk S cs → StoreOk (S ++ replicate n t) (cs ++ replicate n none)
+grow-ok n t k = more-cells n t (cells-ext (grow (replicate n t)) k)
+
+nth-replicate : (n : ℕ) (t : Ty) (i : ℕ) → i < n → nth (replicate n t) i ≡ some t
+nth-replicate zero t i h = absurd (not-suc-le-zero h)
+nth-replicate (suc n) t zero h = refl
+nth-replicate (suc n) t (suc i) h = nth-replicate n t i (le-of-suc-le-suc h)
+
+new-cells : {S R : StoreT} {cs : List (Option Val)} (n : ℕ) (t : Ty) (a i : ℕ) → CellsT S R cs → a ≡ length cs + i → i < n → nth (R ++ replicate n t) a ≡ some t
+new-cells n t a i cnil e h = nth-replicate n t a (omega (arith, e, h))
+new-cells n t zero i (ccons c r) e h = absurd (omega (arith, e))
+new-cells n t (suc a) i (ccons c r) e h = new-cells n t a i r (omega (arith, e)) h
 
 -- ---- forms
 
@@ -244,8 +268,8 @@ set-ok : {S : StoreT} {v : Val} {t : Ty} {a : ℕ} {cs : List (Option Val)} → 
     Has (λ cs′. StoreOk S cs′) (store cs a v)
 set-ok {a = a} k (vA e) h = store-ok a h k e
 
-give-cell-ok : {S : StoreT} {b : Base} {c : Option Val} (p : ℕ) (s : State) → StoreOk S (s .cells) → CellT S b c →
-    Good (IsV (plain (value (base b)))) S (give-cell c p s)
+give-cell-ok : {S : StoreT} {t : Ty} {c : Option Val} (p : ℕ) (s : State) → StoreOk S (s .cells) → CellT S t c →
+    Good (IsV (plain (value t))) S (give-cell c p s)
 unfolding give-cell
 give-cell-ok p s k unset = ruled tt
 give-cell-ok p s k (holds h) = good _ ext-refl k h
@@ -254,9 +278,31 @@ read-value : {S : StoreT} {v : Val} {t : Ty} (p : ℕ) (s : State) → StoreOk S
 read-value p s k (vZ h) = good _ ext-refl k (vZ h)
 read-value p s k (vF Γ ds h q r d) = good _ ext-refl k (vF Γ ds h q r d)
 read-value p s k (vFR Γ ds h q r d) = good _ ext-refl k (vFR Γ ds h q r d)
+read-value p s k (vB h) = good _ ext-refl k (vB h)
 
 read-ref : {S : StoreT} {v : Val} {t : Ty} (p : ℕ) (s : State) → StoreOk S (s .cells) → VT S v (plain (ref t)) → Good (IsV (plain (value t))) S (read v p s)
 read-ref p s k (vA {a = a} h) = good-need _ _ (cell-ok a k h) λ c m. give-cell-ok p s k m
+
+-- blocks
+vec-ok : {S : StoreT} {v : Val} {t : Ty} → VT S v (plain (value (vec-of t))) → Has (BlockT S t) (as-block v)
+vec-ok (vB h) = has h
+
+cell-in-ok : (S : StoreT) (t : Ty) (k : ℕ × ℕ) (i : ℤ) (a : ℕ) → BlockT S t k → cell-in k i ≡ some a → nth S a ≡ some t
+cell-in-ok S t k (pos i) a h e = go (ltb i (k .1)) (λ b. ltb→lt _ _ b) e
+  where
+    go : (b : Bool) → (T b → i < k .1) → cond b (some (k .0 + i)) none ≡ some a → nth S a ≡ some t
+    go true l e = subst (λ a. nth S a ≡ some t) (Option·some-injective _ _ e) (h i (l tt))
+    go false l e = absurd (Option·none-ne-some _ e)
+cell-in-ok S t k (negsuc i) a h e = absurd (Option·none-ne-some _ e)
+
+element-ok : {Q : StoreT → Val → Type 0} {S : StoreT} {t : Ty} {v w : Val} (p : ℕ) (s : State) {k : ℕ → Outcome Val} → VT S v (plain (value (vec-of t))) →
+    VT S w (plain (value INT)) → ((a : ℕ) → nth S a ≡ some t → Good Q S (k a)) → Good Q S (element-rule p v w s k)
+element-ok {S = S} {t = t} p s h m f =
+    good-need _ _ (vec-ok h) λ b n. good-need _ _ (number-ok m) λ i _. good-otherwise (cell-in b i) INDEX p s λ a e. f a (cell-in-ok S t b i a n e)
+
+alloc-ok : {S : StoreT} (L : Limits) (p : ℕ) (n : ℤ) (t : Ty) (s : State) → StoreOk S (s .cells) → Good (IsV (plain (value (vec-of t)))) S (alloc-rule L p n s)
+alloc-ok L p n t s k = good-otherwise (as-size n) SIZE p s λ m _.
+    good-within _ _ _ _ (good _ (grow (replicate m t)) (grow-ok m t k) (vB (λ i l. new-cells m t _ i k refl l)))
 
 -- a bound name's rule is to read its value
 name-ok : {S : StoreT} {τ : Entity} {t : Ty} (m : Meaning) (o : Option Entity) (v : Option Val) (p : ℕ) (s : State) → unless-nine m o ≡ some τ →
@@ -420,25 +466,34 @@ module _ (L : Limits) {r : Level} (h : GoodLevel r) where
   expr-ok s (PRIM {f = f} e ds) m k = prim-ok f _ s (head-operator f) e ds m k
   expr-ok s (APP {f = f} d ds) m k = app-ok _ s (head-operator f) (head-typed f d) d ds m k
   expr-ok s (ABS {ps = ps} _ d) m k = good _ ext-refl k (vF _ (declared (values ps)) m (names-are (values ps)) (values-are ps) d)
+  expr-ok s (ALLOC {t = t} _ d) m k = good-bind (h .expr-good s d m k) λ S₁ v s₁ le₁ k₁ p. good-need _ _ (number-ok p) λ n _. alloc-ok L _ n (typeOf t) s₁ k₁
+  expr-ok s (NTH da db) m k =
+      good-bind (h .expr-good s da m k) λ S₁ v s₁ le₁ k₁ p. good-bind (h .expr-good s₁ db (env-ext le₁ m) k₁) λ S₂ w s₂ le₂ k₂ q.
+      element-ok _ s₂ (vt-ext le₂ p) q λ a e. good-need _ _ (cell-ok a k₂ e) λ c n. give-cell-ok _ s₂ k₂ n
+  expr-ok s (LEN d) m k = good-bind (h .expr-good s d m k) λ S₁ v s₁ le₁ k₁ p. good-need _ _ (vec-ok p) λ b _. good S₁ ext-refl k₁ (vZ tt)
+  expr-ok s (VSET da db dc) m k =
+      good-bind (h .expr-good s da m k) λ S₁ v s₁ le₁ k₁ p. good-bind (h .expr-good s₁ db (env-ext le₁ m) k₁) λ S₂ w s₂ le₂ k₂ q.
+      good-bind (h .expr-good s₂ dc (env-ext le₂ (env-ext le₁ m)) k₂) λ S₃ u s₃ le₃ k₃ o.
+      element-ok _ s₃ (vt-ext le₃ (vt-ext le₂ p)) (vt-ext le₃ q) λ a e. good-need _ _ (store-ok a o k₃ e) λ cs k₄. good S₃ ext-refl k₄ (vt-ext le₃ (vt-ext le₂ p))
 
   arg-ok : {Γ : Ctx} {a : ExprP} {q : Par} {S : StoreT} {ρ : Env} (s : State) → HasA Γ a q → EnvT S ρ Γ → StoreOk S (s .cells) →
       Good (IsV (plain q)) S (arg-rule L r a ρ s)
   arg-ok s (VAL d) m k = expr-ok s d m k
   arg-ok s (REF {x = x} e) m k = good-need _ _ (look-ok x m e) λ v p. good-need _ _ (address-ok p) λ a n. good _ ext-refl k n
 
-  var-ok : {Γ : Ctx} {S : StoreT} {ρ : Env} (p : ℕ) (x : Name) (t : Ty) (s : State) → IsBase t → EnvT S ρ Γ → StoreOk S (s .cells) →
+  var-ok : {Γ : Ctx} {S : StoreT} {ρ : Env} (p : ℕ) (x : Name) (t : Ty) (s : State) → EnvT S ρ Γ → StoreOk S (s .cells) →
       Good (IsEnv ((x, plain (ref t)) ∷ Γ)) S
       (within (ltb (length (s .cells)) (L .cells)) CELLS p s (make L 1 p (with-cells (s .cells ++ none ∷ []) s) λ s₁. ok (bound x (inA (length (s .cells))) ρ) s₁))
-  var-ok p x (fn ts t) s i m k = absurd i
-  var-ok p x (base b) s i m k = good-within _ _ _ _ (good-within _ _ _ _ (good _ (grow b) (grow-ok b k) (tbound (vA (new-cell b k)) (env-ext (grow b) m))))
+  var-ok p x t s m k =
+      good-within _ _ _ _ (good-within _ _ _ _ (good _ (grow (t ∷ [])) (grow-ok 1 t k) (tbound (vA (new-cells 1 t _ 0 k (omega arith) (omega arith))) (env-ext (grow (t ∷ [])) m))))
 
   def-ok : {Γ Δ : Ctx} {d : Def} {S : StoreT} {ρ : Env} (s : State) → HasD Γ d Δ → EnvT S ρ Γ → StoreOk S (s .cells) → Good (IsEnv Δ) S (def-rule L r d ρ s)
-  def-ok s (CONST _ d) m k = good-bind (h .expr-good s d m k) λ S₁ v s₁ le₁ k₁ p. good-within _ _ _ _ (good S₁ ext-refl k₁ (tbound p (env-ext le₁ m)))
+  def-ok s (CONST _ _ d) m k = good-bind (h .expr-good s d m k) λ S₁ v s₁ le₁ k₁ p. good-within _ _ _ _ (good S₁ ext-refl k₁ (tbound p (env-ext le₁ m)))
   def-ok s (FUN {ps =
-      ps} _ _ d) m k = good-within _ _ _ _ (good _ ext-refl k (tbound (vF _ (declared (values ps)) m (names-are (values ps)) (values-are ps) d) m))
+      ps} _ _ _ d) m k = good-within _ _ _ _ (good _ ext-refl k (tbound (vF _ (declared (values ps)) m (names-are (values ps)) (values-are ps) d) m))
   def-ok s (FUNREC {ps =
-      ps} _ _ d) m k = good-within _ _ _ _ (good _ ext-refl k (tbound (vFR _ (declared (values ps)) m (names-are (values ps)) (values-are ps) d) m))
-  def-ok s (VAR {p = p} {x = x} {t = t} _ i) m k = var-ok p x (typeOf t) s i m k
+      ps} _ _ _ d) m k = good-within _ _ _ _ (good _ ext-refl k (tbound (vFR _ (declared (values ps)) m (names-are (values ps)) (values-are ps) d) m))
+  def-ok s (VAR {p = p} {x = x} {t = t} _ _) m k = var-ok p x (typeOf t) s m k
   def-ok s (PROC {ps = ps} _ _ d) m k = good-within _ _ _ _ (good _ ext-refl k (tbound (vP _ (declared ps) m (names-are ps) (entities-are ps) d) m))
   def-ok s (PROCREC {ps = ps} _ _ d) m k = good-within _ _ _ _ (good _ ext-refl k (tbound (vPR _ (declared ps) m (names-are ps) (entities-are ps) d) m))
 

@@ -8,13 +8,13 @@ use mathlib.Core.List.{List, [], _∷_, _++_, append-assoc, append-nil}
 use mathlib.Core.Option.{Option, none, some}
 use lib.Dec.{T, leb, leb→le, le→leb}
 use lib.IntN.{ℤ}
-use lib.ListN.{length, length-append}
-use Rattle.language.specs.Syntax.{at, arg, Expr, num, name, if-expr, and, or, app, abs, Exprs, one-expr, more-exprs, ExprP, val, adr, Cmds, last, def-then, stat-then, Def, const, fun, fun-rec, var, proc, proc-rec, Stat, echo, set, if-stat, while, call, Block, block}
-use Rattle.language.specs.Answers.{LimitStop, limit}
+use lib.ListN.{length, length-append, replicate, length-replicate}
+use Rattle.language.specs.Syntax.{at, arg, Expr, num, name, if-expr, and, or, app, abs, alloc, nth-expr, len, vset, Exprs, one-expr, more-exprs, ExprP, val, adr, Cmds, last, def-then, stat-then, Def, const, fun, fun-rec, var, proc, proc-rec, Stat, echo, set, if-stat, while, call, Block, block}
+use Rattle.language.specs.Answers.{LimitStop, ErrorStop, limit}
 use Rattle.language.specs.Names.{Op, Meaning, literal, operator, free, meaning, head-operator}
 use Rattle.language.specs.Numbers.{Computed, amount, fails}
 use Rattle.language.specs.Limits.{Limits, _⊑_}
-use Rattle.language.specs.Rules.{Val, inZ, inF, inFR, inP, inPR, inA, Env, empty, State, Why, stop, Outcome, ok, halt, bind, need, within, branch, take-unit, take-bindings, with-cells, put-out, enter, make, look, store, give, give-cell, Level, exprs, args, cmds, in-block, read, name-rule, apply-rule, expr-rule, arg-rule, def-rule, rounds, stat-rule, bottom, step, level, start, run}
+use Rattle.language.specs.Rules.{Val, inZ, inF, inFR, inP, inPR, inA, inB, Env, empty, State, Why, stop, Outcome, ok, halt, bind, need, otherwise, within, branch, take-unit, take-bindings, with-cells, put-out, enter, make, look, store, give, give-cell, Level, exprs, args, cmds, in-block, read, name-rule, apply-rule, alloc-rule, element-rule, expr-rule, arg-rule, def-rule, rounds, stat-rule, bottom, step, level, start, run}
 use Rattle.language.specs.Outcome.{state-of}
 use Rattle.language.specs.Claims.{NotLimited}
 use Rattle.language.proofs.running.Cells.{length-store}
@@ -56,6 +56,9 @@ past-bindings n s = record { outs = all; used = le-refl _; made = omega arith; t
 
 past-cell : (s : State) → Past (mark s) (mark (with-cells (s .cells ++ none ∷ []) s))
 past-cell s = record { outs = all; used = le-refl _; made = le-refl _; taken = omega (arith, length-append (s .cells) (none ∷ [])) }
+
+past-cells : (n : ℕ) (s : State) → Past (mark s) (mark (with-cells (s .cells ++ replicate n none) s))
+past-cells n s = record { outs = all; used = le-refl _; made = le-refl _; taken = omega (arith, length-append (s .cells) (replicate n none)) }
 
 past-store : (s : State) (a : ℕ) (v : Val) (c : List (Option Val)) → store (s .cells) a v ≡ some c → Past (mark s) (mark (with-cells c s))
 past-store s a v c e = record { outs = all; used = le-refl _; made = le-refl _; taken = omega (arith, length-store (s .cells) a v c e) }
@@ -119,6 +122,12 @@ module _ {A B : Type 0} where
   sim-need : (o : Option A) (p : ℕ) (s : State) {k k′ : A → Outcome B} → ((a : A) → Sim (mark s) (k a) (k′ a)) → Sim (mark s) (need o p s k) (need o p s k′)
   sim-need o p s f = sim-need-as o p s λ a _. f a
 
+  sim-otherwise : (o : Option A) (x : ErrorStop) (p : ℕ) (s : State) {k k′ : A → Outcome B} → ((a : A) → Sim (mark s) (k a) (k′ a)) →
+      Sim (mark s) (otherwise o x p s k) (otherwise o x p s k′)
+  unfolding otherwise
+  sim-otherwise none x p s f = same (aHalt pHere)
+  sim-otherwise (some a) x p s f = f a
+
 give-sim : (c : Computed) (p : ℕ) (s : State) → Sim (mark s) (give c p s) (give c p s)
 unfolding give
 give-sim (amount n) p s = same (aOk pHere)
@@ -136,11 +145,15 @@ read-sim (inFR e f xs ρ) p s = same (aOk pHere)
 read-sim (inP b xs ρ) p s = same (aOk pHere)
 read-sim (inPR b f xs ρ) p s = same (aOk pHere)
 read-sim (inA a) p s = sim-need _ p s λ c. give-cell-sim c p s
+read-sim (inB a n) p s = same (aOk pHere)
 
 name-sim : (m : Meaning) (o : Option Val) (p : ℕ) (s : State) → Sim (mark s) (name-rule m o p s) (name-rule m o p s)
 name-sim (literal b) o p s = same (aOk pHere)
 name-sim (operator f) o p s = same (aHalt pHere)
 name-sim free o p s = sim-need o p s λ v. read-sim v p s
+
+element-sim : (p : ℕ) (v w : Val) (s : State) {k : ℕ → Outcome Val} → ((a : ℕ) → Sim (mark s) (k a) (k a)) → Sim (mark s) (element-rule p v w s k) (element-rule p v w s k)
+element-sim p v w s f = sim-need _ p s λ b. sim-need _ p s λ i. sim-otherwise _ _ p s f
 
 pub ⊑-refl : (L : Limits) → L ⊑ L
 ⊑-refl L = record { fuel-le = le-refl _; depth-le = le-refl _; bindings-le = le-refl _; cells-le = le-refl _; output-le = le-refl _ }
@@ -162,6 +175,9 @@ module _ {L L′ : Limits} (le : L ⊑ L′) where
   make-sim : {A : Type 0} (n p : ℕ) (s : State) {o o′ : Outcome A} → Sim (mark (take-bindings n s)) o o′ →
       Sim (mark s) (make L n p s (λ _. o)) (make L′ n p s (λ _. o′))
   make-sim n p s h = sim-within _ _ _ p s (up _ (le .bindings-le)) (sim-lift (past-bindings n s) h)
+
+  alloc-sim : (p : ℕ) (n : ℤ) (s : State) → Sim (mark s) (alloc-rule L p n s) (alloc-rule L′ p n s)
+  alloc-sim p n s = sim-otherwise _ _ p s λ k. sim-within _ _ _ p s (up _ (le .cells-le)) (same (aOk (past-cells k s)))
 
 -- rounds, with the same count and then with a larger one
 abbrev Round : (test test′ : State → Outcome Val) (run run′ : State → Outcome (Unit {0})) → Type 0
@@ -216,6 +232,13 @@ module _ {r r′ : Level} (h : SimLevel r r′) where
     expr-rule-sim (or p a b) ρ s = sim-bind (h .expr-sim a ρ s) λ v s₁. sim-need _ p s₁ λ t. sim-branch t (same (aOk pHere)) (h .expr-sim b ρ s₁)
     expr-rule-sim (app p f es) ρ s = apply-sim (head-operator f) p f es ρ s
     expr-rule-sim (abs p ps e) ρ s = same (aOk pHere)
+    expr-rule-sim (alloc p t e) ρ s = sim-bind (h .expr-sim e ρ s) λ v s₁. sim-need _ p s₁ λ n. alloc-sim le p n s₁
+    expr-rule-sim (nth-expr p a b) ρ s =
+        sim-bind (h .expr-sim a ρ s) λ v s₁. sim-bind (h .expr-sim b ρ s₁) λ w s₂. element-sim p v w s₂ λ k. sim-need _ p s₂ λ c. give-cell-sim c p s₂
+    expr-rule-sim (len p a) ρ s = sim-bind (h .expr-sim a ρ s) λ v s₁. sim-need _ p s₁ λ k. same (aOk pHere)
+    expr-rule-sim (vset p a b c) ρ s =
+        sim-bind (h .expr-sim a ρ s) λ v s₁. sim-bind (h .expr-sim b ρ s₁) λ w s₂. sim-bind (h .expr-sim c ρ s₂) λ u s₃.
+        element-sim p v w s₃ λ k. sim-need-as _ p s₃ λ cs e. same (aOk (past-store s₃ k u cs e))
 
     arg-rule-sim : (a : ExprP) (ρ : Env) (s : State) → Sim (mark s) (arg-rule L r a ρ s) (arg-rule L′ r′ a ρ s)
     arg-rule-sim (val e) ρ s = expr-rule-sim e ρ s

@@ -3,7 +3,7 @@ use mathlib.Core.Path.{_≡_}
 use mathlib.Core.List.{List, [], _∷_}
 use Prim.Native.Nat.{ℕ, zero, suc, _+_, _≤_}
 use native.Mathlib.Omega.{arith}
-use Rattle.language.specs.Syntax.{TypeTree, bool, int, arrow, TypeTrees, one-type, more-types, Arg, arg, ArgP, val-arg, var-arg, Expr, num, name, if-expr, and, or, app, abs, Exprs, one-expr, more-exprs, ExprP, val, adr, Cmds, last, def-then, stat-then, Def, const, fun, fun-rec, var, proc, proc-rec, Stat, echo, set, if-stat, while, call, Block, block}
+use Rattle.language.specs.Syntax.{TypeTree, bool, int, arrow, vec, TypeTrees, one-type, more-types, Arg, arg, ArgP, val-arg, var-arg, Expr, num, name, if-expr, and, or, app, abs, alloc, nth-expr, len, vset, Exprs, one-expr, more-exprs, ExprP, val, adr, Cmds, last, def-then, stat-then, Def, const, fun, fun-rec, var, proc, proc-rec, Stat, echo, set, if-stat, while, call, Block, block}
 use Rattle.language.specs.Levels.{levelsType, levelsTypes, levelsArg, levelsArgs, levelsArgP, levelsArgsP, levelsExpr, levelsExprs, levelsExprP, levelsExprsP, levelsCmds, levelsDef, levelsStat, levelsBlock, levels, deepest}
 use Rattle.language.specs.Reading.{Within, a-level}
 use Rattle.language.specs.Types.{values}
@@ -30,6 +30,7 @@ mutual
   fits-type (int p) d n l e w = (tt, rest w)
   fits-type (arrow p a t) d n l e w =
       opened d n _ l e (top w) λ m f. let x = fits-types a (suc d) m _ f (rest w) in let y = fits-type t (suc d) m _ f (rest (x .1)) in ((x .0, y .0), rest (y .1))
+  fits-type (vec p t) d n l e w = opened d n _ l e (top w) λ m f. let x = fits-type t (suc d) m _ f (rest (rest w)) in (x .0, rest (x .1))
 
   fits-types : (a : TypeTrees) (d n : ℕ) (l : List ℕ) → d + n ≡ deepest → Within deepest (levelsTypes a d l) → FitsTypes a n × Within deepest l
   fits-types (one-type t) d n l e w = fits-type t d n l e w
@@ -65,6 +66,16 @@ mutual
       opened d n _ l e (top w) λ m f. let x = fits-expr a (suc d) m _ f (rest w) in let y = fits-exprs es (suc d) m _ f (x .1) in ((x .0, y .0), rest (y .1))
   fits-expr (abs p ps a) d n l e w =
       opened d n _ l e (top w) λ m f. let x = fits-args ps (suc d) m _ f (rest w) in let y = fits-expr a (suc d) m _ f (x .1) in ((x .0, y .0), y .1)
+  fits-expr (alloc p t a) d n l e w =
+      opened d n _ l e (top w) λ m f. let x = fits-type t (suc d) m _ f (rest (rest w)) in let y = fits-expr a (suc d) m _ f (x .1) in ((x .0, y .0), rest (y .1))
+  fits-expr (nth-expr p a b) d n l e w =
+      opened d n _ l e (top w) λ m f. let x = fits-expr a (suc d) m _ f (rest (rest w)) in let y = fits-expr b (suc d) m _ f (x .1) in ((x .0, y .0), rest (y .1))
+  fits-expr (len p a) d n l e w = opened d n _ l e (top w) λ m f. let x = fits-expr a (suc d) m _ f (rest (rest w)) in (x .0, rest (x .1))
+  fits-expr (vset p a b c) d n l e w =
+      opened d n _ l e (top w) λ m f.
+      let x = fits-expr a (suc d) m _ f (rest (rest w)) in
+      let y = fits-expr b (suc d) m _ f (x .1) in
+      let z = fits-expr c (suc d) m _ f (y .1) in ((x .0, y .0, z .0), rest (z .1))
 
   fits-exprs : (es : Exprs) (d n : ℕ) (l : List ℕ) → d + n ≡ deepest → Within deepest (levelsExprs es d l) → FitsExprs es n × Within deepest l
   fits-exprs (one-expr a) d n l e w = fits-expr a d n l e w

@@ -4,11 +4,11 @@ use Prim.Native.Nat.{ℕ}
 use mathlib.Core.Bool.{Bool, true, false}
 use mathlib.Core.List.{List, [], _∷_}
 use mathlib.Core.Option.{Option, none, some}
-use Rattle.language.specs.Syntax.{Name, at, ArgP, val-arg, var-arg, Expr, num, name, if-expr, and, or, app, abs, Exprs, one-expr, more-exprs, ExprP, val, adr, Cmds, last, def-then, stat-then, Def, const, fun, fun-rec, var, proc, proc-rec, Stat, echo, set, if-stat, while, call, Block, block}
+use Rattle.language.specs.Syntax.{Name, at, TypeTree, bool, int, arrow, vec, TypeTrees, one-type, more-types, ArgP, val-arg, var-arg, Expr, num, name, if-expr, and, or, app, abs, alloc, nth-expr, len, vset, Exprs, one-expr, more-exprs, ExprP, val, adr, Cmds, last, def-then, stat-then, Def, const, fun, fun-rec, var, proc, proc-rec, Stat, echo, set, if-stat, while, call, Block, block}
 use Rattle.language.specs.Places.{place-param}
 use Rattle.language.specs.Answers.{TYPE, DOUBLE, Result, fine, refuse}
 use Rattle.language.specs.Names.{Op, Meaning, literal, operator, free, meaning, head-operator}
-use Rattle.language.specs.Types.{Base, boolean, integer, Ty, base, fn, Tys, tnil, tcons, BOOL, INT, typeOf, Par, value, ref, Entity, plain, procedure, Ctx, find, extend, values, pars, param-name, declared, arg-types, fun-type, takes, result}
+use Rattle.language.specs.Types.{Base, boolean, integer, Ty, base, fn, vec-of, Tys, tnil, tcons, BOOL, INT, typeOf, Par, value, ref, Entity, plain, procedure, Ctx, find, extend, values, pars, param-type, param-name, declared, arg-types, fun-type, takes, result}
 use Rattle.language.specs.Typing.{among}
 use Rattle.language.specs.Order.{after-def}
 
@@ -50,8 +50,13 @@ unfoldable mutual
   pub same-type : Ty → Ty → Bool
   same-type (base a) (base b) = same-base a b
   same-type (base a) (fn us u) = false
+  same-type (base a) (vec-of u) = false
   same-type (fn ts t) (base b) = false
   same-type (fn ts t) (fn us u) = andb (same-types ts us) (same-type t u)
+  same-type (fn ts t) (vec-of u) = false
+  same-type (vec-of t) (base b) = false
+  same-type (vec-of t) (fn us u) = false
+  same-type (vec-of t) (vec-of u) = same-type t u
 
   pub same-types : Tys → Tys → Bool
   same-types tnil tnil = true
@@ -79,6 +84,12 @@ is-free free = true
 abbrev pub is-base : Ty → Bool
 is-base (base b) = true
 is-base (fn ts t) = false
+is-base (vec-of t) = false
+
+abbrev pub is-element : Ty → Bool
+is-element (base b) = true
+is-element (fn ts t) = false
+is-element (vec-of t) = true
 
 abbrev pub declarable : ArgP → Bool
 declarable (val-arg (at p x) t) = is-free (meaning x)
@@ -107,15 +118,47 @@ prim-type o ts = only (same-types ts (takes o)) (some (base (result o)))
 abbrev pub app-type : Ty → Tys → Option Ty
 app-type (base b) us = none
 app-type (fn ts t) us = only (same-types us ts) (some t)
+app-type (vec-of t) us = none
+
+-- blocks of cells
+abbrev pub alloc-type : Ty → Ty → Option Ty
+alloc-type t u = only (is-element t) (only (same-type u INT) (some (vec-of t)))
+
+abbrev pub nth-type : Ty → Ty → Option Ty
+nth-type (base b) u = none
+nth-type (fn ts t) u = none
+nth-type (vec-of t) u = only (same-type u INT) (some t)
+
+abbrev pub len-type : Ty → Option Ty
+len-type (base b) = none
+len-type (fn ts t) = none
+len-type (vec-of t) = some INT
+
+abbrev pub vset-type : Ty → Ty → Ty → Option Ty
+vset-type (base b) u v = none
+vset-type (fn ts t) u v = none
+vset-type (vec-of t) u v = only (same-type u INT) (only (same-type v t) (some (vec-of t)))
 
 abbrev pub judge-app : ℕ → Option Op → Result Ty → Result Tys → Result Ty
 judge-app p (some o) f es = andThen es λ ts. judged p (prim-type o ts)
 judge-app p none f es = andThen f λ tf. andThen es λ ts. judged p (app-type tf ts)
 
+-- a type that is written
+unfoldable mutual
+  pub judge-type : TypeTree → Result (Unit {0})
+  judge-type (bool p) = fine tt
+  judge-type (int p) = fine tt
+  judge-type (arrow p ts t) = andThen (judge-types ts) λ u. judge-type t
+  judge-type (vec p t) = andThen (judge-type t) λ u. passes p (is-element (typeOf t))
+
+  pub judge-types : TypeTrees → Result (Unit {0})
+  judge-types (one-type t) = judge-type t
+  judge-types (more-types t ts) = andThen (judge-type t) λ u. judge-types ts
+
 unfoldable pub judge-after : List Name → List ArgP → Result (Unit {0})
 judge-after xs [] = fine tt
 judge-after xs (a ∷ ps) =
-    andThen (passes (place-param a) (declarable a)) λ u. andThen (single (place-param a) (among (param-name a) xs)) λ v. judge-after (param-name a ∷ xs) ps
+    andThen (judge-type (param-type a)) λ t. andThen (passes (place-param a) (declarable a)) λ u. andThen (single (place-param a) (among (param-name a) xs)) λ v. judge-after (param-name a ∷ xs) ps
 
 abbrev pub judge-params : List ArgP → Result (Unit {0})
 judge-params ps = judge-after [] ps
@@ -130,6 +173,10 @@ unfoldable mutual
   judge-expr Γ (app p f es) = judge-app p (head-operator f) (judge-expr Γ f) (judge-exprs Γ es)
   judge-expr Γ (abs p ps e) =
       andThen (judge-params (values ps)) λ u. andThen (judge-expr (extend (declared (values ps)) Γ) e) λ t. judged p (some (fn (arg-types ps) t))
+  judge-expr Γ (alloc p t e) = andThen (judge-type t) λ u. andThen (judge-expr Γ e) λ te. judged p (alloc-type (typeOf t) te)
+  judge-expr Γ (nth-expr p a b) = andThen (judge-expr Γ a) λ ta. andThen (judge-expr Γ b) λ tb. judged p (nth-type ta tb)
+  judge-expr Γ (len p a) = andThen (judge-expr Γ a) λ ta. judged p (len-type ta)
+  judge-expr Γ (vset p a b c) = andThen (judge-expr Γ a) λ ta. andThen (judge-expr Γ b) λ tb. andThen (judge-expr Γ c) λ tc. judged p (vset-type ta tb tc)
 
   pub judge-exprs : Ctx → Exprs → Result Tys
   judge-exprs Γ (one-expr e) = andThen (judge-expr Γ e) λ t. fine (tcons t tnil)
@@ -177,14 +224,14 @@ unfoldable mutual
   judge-cmds Γ (last c) = judge-stat Γ c
 
   pub judge-def : Ctx → Def → Result (Unit {0})
-  judge-def Γ (const p (at q x) t e) = andThen (judge-expr Γ e) λ u. passes p (andb (is-free (meaning x)) (same-type u (typeOf t)))
+  judge-def Γ (const p (at q x) t e) = andThen (judge-type t) λ w. andThen (judge-expr Γ e) λ u. passes p (andb (is-free (meaning x)) (same-type u (typeOf t)))
   judge-def Γ (fun p (at q x) t ps e) =
-      andThen (judge-params (values ps)) λ v. andThen (judge-expr (extend (declared (values ps)) Γ) e) λ u.
+      andThen (judge-type t) λ w. andThen (judge-params (values ps)) λ v. andThen (judge-expr (extend (declared (values ps)) Γ) e) λ u.
       passes p (andb (is-free (meaning x)) (same-type u (typeOf t)))
   judge-def Γ (fun-rec p (at q x) t ps e) =
-      andThen (judge-params (values ps)) λ v. andThen (judge-expr ((x, plain (value (fun-type ps t))) ∷ extend (declared (values ps)) Γ) e) λ u.
+      andThen (judge-type t) λ w. andThen (judge-params (values ps)) λ v. andThen (judge-expr ((x, plain (value (fun-type ps t))) ∷ extend (declared (values ps)) Γ) e) λ u.
       passes p (andb (is-free (meaning x)) (same-type u (typeOf t)))
-  judge-def Γ (var p (at q x) t) = passes p (andb (is-free (meaning x)) (is-base (typeOf t)))
+  judge-def Γ (var p (at q x) t) = andThen (judge-type t) λ w. passes p (andb (is-free (meaning x)) (is-base (typeOf t)))
   judge-def Γ (proc p (at q x) ps b) = andThen (judge-params ps) λ v. andThen (judge-block (extend (declared ps) Γ) b) λ u. passes p (is-free (meaning x))
   judge-def Γ (proc-rec p (at q x) ps b) =
       andThen (judge-params ps) λ v. andThen (judge-block ((x, procedure (pars ps)) ∷ extend (declared ps) Γ) b) λ u. passes p (is-free (meaning x))

@@ -6,16 +6,16 @@ use mathlib.Core.Bool.{Bool, true, false}
 use mathlib.Core.List.{List, [], _∷_, _++_}
 use mathlib.Core.Option.{Option, none, some}
 use lib.Dec.{T}
-use Rattle.language.specs.Syntax.{Name, at, ArgP, Expr, num, name, if-expr, and, or, app, abs, Exprs, one-expr, more-exprs, ExprP, val, adr, Cmds, last, def-then, stat-then, Def, const, fun, fun-rec, var, proc, proc-rec, Stat, echo, set, if-stat, while, call, Block, block}
+use Rattle.language.specs.Syntax.{Name, at, TypeTree, bool, int, arrow, vec, TypeTrees, one-type, more-types, ArgP, Expr, num, name, if-expr, and, or, app, abs, alloc, nth-expr, len, vset, Exprs, one-expr, more-exprs, ExprP, val, adr, Cmds, last, def-then, stat-then, Def, const, fun, fun-rec, var, proc, proc-rec, Stat, echo, set, if-stat, while, call, Block, block}
 use Rattle.language.specs.Places.{place-expr, place-param}
 use Rattle.language.specs.Answers.{Refusal, TYPE, Result, fine, refuse}
 use Rattle.language.specs.Names.{Op, Meaning, literal, operator, free, meaning, head-operator}
-use Rattle.language.specs.Types.{Ty, base, fn, Tys, tnil, tcons, BOOL, INT, typeOf, Par, value, ref, Entity, plain, procedure, Ctx, find, extend, values, param-name, declared, takes}
-use Rattle.language.specs.Typing.{Free, Declarable, Single, DeclarableAfter, AllDeclarable, among, HasE, NUM, LITERAL, IDV, IDR, IF, AND, OR, PRIM, APP, ABS, HasEs, ONE, MORE, HasA, REF, VAL, HasAs, NO-ARGS, ARGS, HasB, BLOC, HasC, DECS, STATS, END, HasD, CONST, FUN, FUNREC, VAR, PROC, PROCREC, HasS, ECHO, SET, IFS, WHILE, CALL, Typable}
-use Rattle.language.specs.Order.{JudgedNode, expr-node, adr-node, param-node, single-node, def-node, stat-node, place-node, refusal-node, Typed, after-def, nodes-after, nodes-params, nodes-head, nodes-expr, nodes-exprs, nodes-arg, nodes-args, nodes-block, nodes-cmds, nodes-def, nodes-stat, FirstBad, here, later, TypeRefused}
-use Rattle.language.proofs.typing.Judge.{andThen, judged, only, passes, single, andb, same-type, same-types, is-free, is-base, name-type, if-type, bools-type, prim-type, app-type, judge-app, judge-after, judge-params, judge-expr, judge-exprs, ref-type, call-pars, fits-ref, fits-call, as-ref, judge-arg, judge-args, judge-block, judge-cmds, judge-def, judge-stat, judge}
-use Rattle.language.proofs.typing.SameType.{andb-l, andb-r, same-type-is, same-types-is, same-pars-is, free-is, base-is, declarable-in, declarable-is}
-use Rattle.language.proofs.typing.Unique.{Is, is, IsO, isO, is-pass, complete-params, complete-expr, complete-exprs, complete-arg, complete-args, complete-block, complete-def, complete-stat}
+use Rattle.language.specs.Types.{Ty, base, fn, vec-of, Tys, tnil, tcons, BOOL, INT, typeOf, Par, value, ref, Entity, plain, procedure, Ctx, find, extend, values, param-type, param-name, declared, takes}
+use Rattle.language.specs.Typing.{Free, Formed, AllFormed, Declarable, Single, DeclarableAfter, AllDeclarable, among, HasE, NUM, LITERAL, IDV, IDR, IF, AND, OR, PRIM, APP, ABS, ALLOC, NTH, LEN, VSET, HasEs, ONE, MORE, HasA, REF, VAL, HasAs, NO-ARGS, ARGS, HasB, BLOC, HasC, DECS, STATS, END, HasD, CONST, FUN, FUNREC, VAR, PROC, PROCREC, HasS, ECHO, SET, IFS, WHILE, CALL, Typable}
+use Rattle.language.specs.Order.{JudgedNode, expr-node, adr-node, vec-node, param-node, single-node, def-node, stat-node, place-node, refusal-node, Typed, after-def, nodes-type, nodes-types, nodes-after, nodes-params, nodes-head, nodes-expr, nodes-exprs, nodes-arg, nodes-args, nodes-block, nodes-cmds, nodes-def, nodes-stat, FirstBad, here, later, TypeRefused}
+use Rattle.language.proofs.typing.Judge.{andThen, judged, only, passes, single, andb, same-type, same-types, is-free, is-base, is-element, name-type, if-type, bools-type, prim-type, app-type, alloc-type, nth-type, len-type, vset-type, judge-app, judge-type, judge-types, judge-after, judge-params, judge-expr, judge-exprs, ref-type, call-pars, fits-ref, fits-call, as-ref, judge-arg, judge-args, judge-block, judge-cmds, judge-def, judge-stat, judge}
+use Rattle.language.proofs.typing.SameType.{andb-l, andb-r, same-type-is, same-types-is, same-pars-is, free-is, base-is, element-in, element-is, declarable-in, declarable-is}
+use Rattle.language.proofs.typing.Unique.{Is, is, IsO, isO, is-pass, complete-type, complete-params, complete-expr, complete-exprs, complete-arg, complete-args, complete-block, complete-def, complete-stat}
 
 pub data AllTyped : List JudgedNode → Type 0 where
   allNil : AllTyped []
@@ -133,8 +133,46 @@ prim-own {Γ} {p} {f} {o} {es} {ts} e h i =
 
 app-own : {Γ : Ctx} {p : ℕ} {f : Expr} {es : Exprs} (tf : Ty) {us : Tys} {t : Ty} → HasE Γ f tf → HasEs Γ es us → IsO t (app-type tf us) → HasE Γ (app p f es) t
 app-own (base b) hf hs i = absurd (no-isO i)
+app-own (vec-of r) hf hs i = absurd (no-isO i)
 app-own {Γ} {p} {f} {es} (fn ts r) {us} hf hs i =
     let u = only-inv (same-types us ts) i in subst (λ t. HasE Γ (app p f es) t) (isO-uniq (u .1)) (APP hf (as-types ts (u .0) hs))
+
+alloc-own : {Γ : Ctx} {p : ℕ} (t : TypeTree) {e : Expr} {u r : Ty} → Formed t → HasE Γ e u → IsO r (alloc-type (typeOf t) u) → HasE Γ (alloc p t e) r
+alloc-own {Γ} {p} t {e} {u} f h i =
+    let x = only-inv (is-element (typeOf t)) i in let y = only-inv (same-type u INT) (x .1) in
+    subst (λ r. HasE Γ (alloc p t e) r) (isO-uniq (y .1)) (ALLOC (f, element-is (typeOf t) (x .0)) (as-type INT (y .0) h))
+
+nth-own : {Γ : Ctx} {p : ℕ} {a b : Expr} (ta : Ty) {tb t : Ty} → HasE Γ a ta → HasE Γ b tb → IsO t (nth-type ta tb) → HasE Γ (nth-expr p a b) t
+nth-own (base k) ha hb i = absurd (no-isO i)
+nth-own (fn ts r) ha hb i = absurd (no-isO i)
+nth-own {Γ} {p} {a} {b} (vec-of r) {tb} ha hb i =
+    let u = only-inv (same-type tb INT) i in subst (λ t. HasE Γ (nth-expr p a b) t) (isO-uniq (u .1)) (NTH ha (as-type INT (u .0) hb))
+
+len-own : {Γ : Ctx} {p : ℕ} {a : Expr} (ta : Ty) {t : Ty} → HasE Γ a ta → IsO t (len-type ta) → HasE Γ (len p a) t
+len-own (base k) ha i = absurd (no-isO i)
+len-own (fn ts r) ha i = absurd (no-isO i)
+len-own {Γ} {p} {a} (vec-of r) ha i = subst (λ t. HasE Γ (len p a) t) (isO-uniq i) (LEN ha)
+
+vset-own : {Γ : Ctx} {p : ℕ} {a b c : Expr} (ta : Ty) {tb tc t : Ty} → HasE Γ a ta → HasE Γ b tb → HasE Γ c tc → IsO t (vset-type ta tb tc) → HasE Γ (vset p a b c) t
+vset-own (base k) ha hb hc i = absurd (no-isO i)
+vset-own (fn ts r) ha hb hc i = absurd (no-isO i)
+vset-own {Γ} {p} {a} {b} {c} (vec-of r) {tb} {tc} ha hb hc i =
+    let u = only-inv (same-type tb INT) i in let v = only-inv (same-type tc r) (u .1) in
+    subst (λ t. HasE Γ (vset p a b c) t) (isO-uniq (v .1)) (VSET ha (as-type INT (u .0) hb) (as-type r (v .0) hc))
+
+mutual
+  unfolding judge-type nodes-type
+
+  view-type : (t : TypeTree) → View (λ u. Formed t) (nodes-type t) (judge-type t)
+  view-type (bool p) = vfine tt allNil
+  view-type (int p) = vfine tt allNil
+  view-type (arrow p ts t) = seq (view-types ts) λ u g. map-view (λ v h. (g, h)) (view-type t)
+  view-type (vec p t) = seq (view-type t) λ u h.
+      pass (vec-node p t) p _ refl (λ b. (h, element-is (typeOf t) b)) (λ k. k) (λ k. is-pass _ _ (element-in (typeOf t) (k .1)))
+
+  view-types : (ts : TypeTrees) → View (λ u. AllFormed ts) (nodes-types ts) (judge-types ts)
+  view-types (one-type t) = view-type t
+  view-types (more-types t ts) = seq (view-type t) λ u g. map-view (λ v h. (g, h)) (view-types ts)
 
 -- a parameter's name among those before it
 view-single : (xs : List Name) (a : ArgP) (b : Bool) → among (param-name a) xs ≡ b → View (λ u. Single xs a) (single-node xs a ∷ []) (single (place-param a) b)
@@ -145,7 +183,7 @@ view-single xs a false e = vfine e (allCons {n = single-node xs a} e allNil)
 view-after : (xs : List Name) (ps : List ArgP) → View (λ u. DeclarableAfter xs ps) (nodes-after xs ps) (judge-after xs ps)
 unfolding judge-after
 view-after xs [] = vfine tt allNil
-view-after xs (a ∷ ps) = seq (pass {X = Declarable a} (param-node a) (place-param a) _ refl (declarable-is a) (λ h. h) (λ h. is-pass _ _ (declarable-in a h)))
+view-after xs (a ∷ ps) = seq (view-type (param-type a)) λ t f. seq (pass {X = Declarable a} (param-node a) (place-param a) _ refl (declarable-is a f) (λ h. h) (λ h. is-pass _ _ (declarable-in a h)))
     λ u h. seq (view-single xs a _ refl) λ v k. map-view (λ w hs. (h, k, hs)) (view-after _ ps)
 
 view-params : (ps : List ArgP) → View (λ u. AllDeclarable ps) (nodes-params ps) (judge-params ps)
@@ -179,6 +217,13 @@ mutual
   view-expr (app p f es) Γ = view-app p f es (head-operator f) refl (view-expr f Γ) (view-exprs es Γ) (λ t h. complete-expr (app p f es) h)
   view-expr (abs p ps e) Γ = seq (view-params (values ps)) λ u g. seq (view-expr e (extend (declared (values ps)) Γ)) λ tb hb.
       exp _ (λ t i. subst (λ t. HasE Γ (abs p ps e) t) (isO-uniq i) (ABS g hb)) (λ t h. peel _ (complete-expr e hb) (peel _ (complete-params (values ps) g) (complete-expr (abs p ps e) h)))
+  view-expr (alloc p t e) Γ = seq (view-type t) λ u f. seq (view-expr e Γ) λ te he.
+      exp _ (λ r i. alloc-own t f he i) (λ r h. peel _ (complete-expr e he) (peel _ (complete-type t f) (complete-expr (alloc p t e) h)))
+  view-expr (nth-expr p a b) Γ = seq (view-expr a Γ) λ ta ha. seq (view-expr b Γ) λ tb hb.
+      exp _ (λ t i. nth-own ta ha hb i) (λ t h. peel _ (complete-expr b hb) (peel _ (complete-expr a ha) (complete-expr (nth-expr p a b) h)))
+  view-expr (len p a) Γ = seq (view-expr a Γ) λ ta ha. exp _ (λ t i. len-own ta ha i) (λ t h. peel _ (complete-expr a ha) (complete-expr (len p a) h))
+  view-expr (vset p a b c) Γ = seq (view-expr a Γ) λ ta ha. seq (view-expr b Γ) λ tb hb. seq (view-expr c Γ) λ tc hc.
+      exp _ (λ t i. vset-own ta ha hb hc i) (λ t h. peel _ (complete-expr c hc) (peel _ (complete-expr b hb) (peel _ (complete-expr a ha) (complete-expr (vset p a b c) h))))
 
   pub view-exprs : (es : Exprs) (Γ : Ctx) → View (HasEs Γ es) (nodes-exprs Γ es) (judge-exprs Γ es)
   view-exprs (one-expr e) Γ = seq-fine (λ t. tcons t tnil) (view-expr e Γ) λ t h. ONE h
@@ -233,18 +278,18 @@ mutual
   view-cmds (last c) Γ = map-view (λ u h. END h) (view-stat c Γ)
 
   pub view-def : (d : Def) (Γ : Ctx) → View (λ u. HasD Γ d (after-def d Γ)) (nodes-def Γ d) (judge-def Γ d)
-  view-def (const p (at q x) t e) Γ = seq (view-expr e Γ) λ v h.
-      pass (def-node Γ (const p (at q x) t e)) p _ refl (typed-def x v (typeOf t) CONST h) (λ k. (_, k))
-      (λ k. peel _ (complete-expr e h) (complete-def (const p (at q x) t e) (k .1)))
-  view-def (fun p (at q x) t ps e) Γ = seq (view-params (values ps)) λ u g. seq (view-expr e _) λ v h.
-      pass (def-node Γ (fun p (at q x) t ps e)) p _ refl (typed-def x v (typeOf t) (λ f d. FUN f g d) h) (λ k. (_, k))
-      (λ k. peel _ (complete-expr e h) (peel _ (complete-params (values ps) g) (complete-def (fun p (at q x) t ps e) (k .1))))
-  view-def (fun-rec p (at q x) t ps e) Γ = seq (view-params (values ps)) λ u g. seq (view-expr e _) λ v h.
-      pass (def-node Γ (fun-rec p (at q x) t ps e)) p _ refl (typed-def x v (typeOf t) (λ f d. FUNREC f g d) h) (λ k. (_, k))
-      (λ k. peel _ (complete-expr e h) (peel _ (complete-params (values ps) g) (complete-def (fun-rec p (at q x) t ps e) (k .1))))
-  view-def (var p (at q x) t) Γ = pass (def-node Γ (var p (at q x) t)) p _ refl
+  view-def (const p (at q x) t e) Γ = seq (view-type t) λ w c. seq (view-expr e Γ) λ v h.
+      pass (def-node Γ (const p (at q x) t e)) p _ refl (typed-def x v (typeOf t) (λ f d. CONST f c d) h) (λ k. (_, k))
+      (λ k. peel _ (complete-expr e h) (peel _ (complete-type t c) (complete-def (const p (at q x) t e) (k .1))))
+  view-def (fun p (at q x) t ps e) Γ = seq (view-type t) λ w c. seq (view-params (values ps)) λ u g. seq (view-expr e _) λ v h.
+      pass (def-node Γ (fun p (at q x) t ps e)) p _ refl (typed-def x v (typeOf t) (λ f d. FUN f c g d) h) (λ k. (_, k))
+      (λ k. peel _ (complete-expr e h) (peel _ (complete-params (values ps) g) (peel _ (complete-type t c) (complete-def (fun p (at q x) t ps e) (k .1)))))
+  view-def (fun-rec p (at q x) t ps e) Γ = seq (view-type t) λ w c. seq (view-params (values ps)) λ u g. seq (view-expr e _) λ v h.
+      pass (def-node Γ (fun-rec p (at q x) t ps e)) p _ refl (typed-def x v (typeOf t) (λ f d. FUNREC f c g d) h) (λ k. (_, k))
+      (λ k. peel _ (complete-expr e h) (peel _ (complete-params (values ps) g) (peel _ (complete-type t c) (complete-def (fun-rec p (at q x) t ps e) (k .1)))))
+  view-def (var p (at q x) t) Γ = seq (view-type t) λ w c. pass (def-node Γ (var p (at q x) t)) p _ refl
       (λ b. VAR (free-is x (andb-l (is-free (meaning x)) (is-base (typeOf t)) b)) (base-is (typeOf t) (andb-r (is-free (meaning x)) (is-base (typeOf t)) b)))
-      (λ k. (_, k)) (λ k. complete-def (var p (at q x) t) (k .1))
+      (λ k. (_, k)) (λ k. peel _ (complete-type t c) (complete-def (var p (at q x) t) (k .1)))
   view-def (proc p (at q x) ps b) Γ = seq (view-params ps) λ u g. seq (view-block b _) λ v h.
       pass (def-node Γ (proc p (at q x) ps b)) p _ refl (λ f. PROC (free-is x f) g h) (λ k. (_, k))
       (λ k. peel _ (complete-block b h) (peel _ (complete-params ps g) (complete-def (proc p (at q x) ps b) (k .1))))

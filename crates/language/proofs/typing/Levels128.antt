@@ -6,12 +6,12 @@ use native.Mathlib.Omega.{arith}
 use mathlib.Core.Bool.{Bool, true, false, cond}
 use mathlib.Core.List.{List, [], _∷_, _++_}
 use mathlib.Core.Option.{Option, none, some, Option·none-ne-some, Option·some-injective}
-use Rattle.language.specs.Syntax.{Name, at, TypeTree, bool, int, arrow, TypeTrees, one-type, more-types, Arg, arg, ArgP, val-arg, var-arg, Expr, num, name, if-expr, and, or, app, abs, Exprs, one-expr, more-exprs, ExprP, val, adr, Cmds, last, def-then, stat-then, Def, const, fun, fun-rec, var, proc, proc-rec, Stat, echo, set, if-stat, while, call, Block, block}
+use Rattle.language.specs.Syntax.{Name, at, TypeTree, bool, int, arrow, vec, TypeTrees, one-type, more-types, Arg, arg, ArgP, val-arg, var-arg, Expr, num, name, if-expr, and, or, app, abs, alloc, nth-expr, len, vset, Exprs, one-expr, more-exprs, ExprP, val, adr, Cmds, last, def-then, stat-then, Def, const, fun, fun-rec, var, proc, proc-rec, Stat, echo, set, if-stat, while, call, Block, block}
 use Rattle.language.specs.Bytes.{same-bytes}
 use Rattle.language.specs.Names.{Op, Meaning, literal, operator, free, lookup, meaning, unless-nine, head-operator}
-use Rattle.language.specs.Types.{Ty, base, fn, Tys, tnil, tcons, typeOf, typesOf, Par, value, ref, Entity, plain, procedure, Ctx, find, extend, values, par, declared, arg-types, fun-type}
-use Rattle.language.specs.Typing.{HasE, NUM, LITERAL, IDV, IDR, IF, AND, OR, PRIM, APP, ABS}
-use Rattle.language.specs.Order.{JudgedNode, expr-node, adr-node, param-node, single-node, def-node, stat-node, after-def, nodes-after, nodes-params, nodes-head, nodes-expr, nodes-exprs, nodes-arg, nodes-args, nodes-block, nodes-cmds, nodes-def, nodes-stat}
+use Rattle.language.specs.Types.{Ty, base, fn, vec-of, Tys, tnil, tcons, typeOf, typesOf, Par, value, ref, Entity, plain, procedure, Ctx, find, extend, values, par, param-type, declared, arg-types, fun-type}
+use Rattle.language.specs.Typing.{HasE, NUM, LITERAL, IDV, IDR, IF, AND, OR, PRIM, APP, ABS, ALLOC, NTH, LEN, VSET}
+use Rattle.language.specs.Order.{JudgedNode, expr-node, adr-node, vec-node, param-node, single-node, def-node, stat-node, after-def, nodes-type, nodes-types, nodes-after, nodes-params, nodes-head, nodes-expr, nodes-exprs, nodes-arg, nodes-args, nodes-block, nodes-cmds, nodes-def, nodes-stat}
 use Rattle.language.specs.Claims.{Opened, TyFits, TysFit, AllNodes, no-node, one-more, Comparable}
 use Rattle.language.proofs.typing.Nesting.{FitsType, FitsTypes, FitsParam, FitsParams, FitsExpr, FitsExprs, FitsArg, FitsArgs, FitsBlock, FitsCmds, FitsDef, FitsStat}
 
@@ -25,6 +25,7 @@ mutual
   ty-up : (t : Ty) (a b : ℕ) → a ≤ b → TyFits t a → TyFits t b
   ty-up (base k) a b le h = tt
   ty-up (fn ts t) a b le h = opened-up a b le (λ m n l k. (tys-up ts m n l (k .0), ty-up t m n l (k .1))) h
+  ty-up (vec-of t) a b le h = opened-up a b le (λ m n l k. ty-up t m n l k) h
 
   tys-up : (ts : Tys) (a b : ℕ) → a ≤ b → TysFit ts a → TysFit ts b
   tys-up tnil a b le h = tt
@@ -37,6 +38,8 @@ mutual
   type-fits (int p) n h = tt
   type-fits (arrow p ts t) zero h = h
   type-fits (arrow p ts t) (suc n) h = (types-fit ts n (h .0), type-fits t n (h .1))
+  type-fits (vec p t) zero h = h
+  type-fits (vec p t) (suc n) h = type-fits t n h
 
   types-fit : (ts : TypeTrees) (n : ℕ) → FitsTypes ts n → TysFit (typesOf ts) n
   types-fit (one-type t) n h = (type-fits t n h, tt)
@@ -94,6 +97,14 @@ result-fits ts t (suc a) b le h = ty-up t a b (omega arith) (h .1)
 function-fits : (ts : Tys) (t : Ty) (a b : ℕ) → b ≡ suc a → TysFit ts a → TyFits t a → TyFits (fn ts t) b
 function-fits ts t a b e h k = subst (λ b. TyFits (fn ts t) b) (sym e) (h, k)
 
+-- the same for what a block is of
+element-fits : (t : Ty) (a b : ℕ) → a ≤ b → TyFits (vec-of t) a → TyFits t b
+element-fits t zero b le h = absurd h
+element-fits t (suc a) b le h = ty-up t a b (omega arith) h
+
+vec-fits : (t : Ty) (a b : ℕ) → b ≡ suc a → TyFits t a → TyFits (vec-of t) b
+vec-fits t a b e h = subst (λ b. TyFits (vec-of t) b) (sym e) h
+
 -- an expression of n levels has a type of no more than n + 64
 expr-fits : (e : Expr) (n : ℕ) {Γ : Ctx} {t : Ty} → n ≤ 63 → CtxFits Γ → FitsExpr e n → HasE Γ e t → TyFits t (n + 64)
 expr-fits (num p k) n le c f NUM = tt
@@ -111,6 +122,15 @@ expr-fits (abs p ps e) zero le c f h = absurd f
 expr-fits (abs p ps e) (suc n) le c f (ABS {t = t} g d) =
     function-fits (arg-types ps) t (n + 64) (suc n + 64) (omega arith) (tys-up (arg-types ps) n (n + 64) (omega arith) (args-fit ps n (f .0)))
     (expr-fits e n (omega (arith, le)) (params-fit (values ps) n (omega (arith, le)) (f .0) c) (f .1) d)
+expr-fits (alloc p t e) zero le c f h = absurd f
+expr-fits (alloc p t e) (suc n) le c f (ALLOC g d) =
+    vec-fits (typeOf t) (n + 64) (suc n + 64) (omega arith) (ty-up (typeOf t) n (n + 64) (omega arith) (type-fits t n (f .0)))
+expr-fits (nth-expr p a b) zero le c f h = absurd f
+expr-fits (nth-expr p a b) (suc n) {t = t} le c f (NTH ha hb) = element-fits t (n + 64) (suc n + 64) (omega arith) (expr-fits a n (omega (arith, le)) c (f .0) ha)
+expr-fits (len p a) n le c f (LEN h) = tt
+expr-fits (vset p a b d) zero le c f h = absurd f
+expr-fits (vset p a b d) (suc n) le c f (VSET {t = t} ha hb hd) =
+    ty-up (vec-of t) (n + 64) (suc n + 64) (omega arith) (expr-fits a n (omega (arith, le)) c (f .0) ha)
 
 comparable : (e : Expr) (n : ℕ) {Γ : Ctx} → n ≤ 63 → CtxFits Γ → FitsExpr e n → Comparable (expr-node Γ e)
 comparable e n le c f t h = ty-up t (n + 64) 128 (omega (arith, le)) (expr-fits e n le c f h)
@@ -124,9 +144,22 @@ all-both (one-more h r) k = one-more h (all-both r k)
 one-node : (n : JudgedNode) → Comparable n → AllNodes Comparable (n ∷ [])
 one-node n h = one-more {n = n} h no-node
 
+mutual
+  unfolding nodes-type
+
+  all-type : (t : TypeTree) → AllNodes Comparable (nodes-type t)
+  all-type (bool p) = no-node
+  all-type (int p) = no-node
+  all-type (arrow p ts t) = all-both (all-types ts) (all-type t)
+  all-type (vec p t) = all-both (all-type t) (one-node (vec-node p t) tt)
+
+  all-types : (ts : TypeTrees) → AllNodes Comparable (nodes-types ts)
+  all-types (one-type t) = all-type t
+  all-types (more-types t ts) = all-both (all-type t) (all-types ts)
+
 all-after : (xs : List Name) (ps : List ArgP) → AllNodes Comparable (nodes-after xs ps)
 all-after xs [] = no-node
-all-after xs (a ∷ ps) = one-more {n = param-node a} tt (one-more {n = single-node xs a} tt (all-after _ ps))
+all-after xs (a ∷ ps) = all-both (all-type (param-type a)) (one-more {n = param-node a} tt (one-more {n = single-node xs a} tt (all-after _ ps)))
 
 all-params : (ps : List ArgP) → AllNodes Comparable (nodes-params ps)
 all-params ps = all-after [] ps
@@ -160,6 +193,19 @@ mutual
       all-both (all-params (values ps))
       (all-both
       (all-expr e n (extend (declared (values ps)) Γ) (omega (arith, le)) (params-fit (values ps) n (omega (arith, le)) (f .0) c) (f .1)) (one-node (expr-node Γ (abs p ps e)) (comparable (abs p ps e) (suc n) le c f)))
+  all-expr (alloc p t e) zero Γ le c f = absurd f
+  all-expr (alloc p t e) (suc n) Γ le c f = let l : n ≤ 63 = omega (arith, le) in
+      all-both (all-type t) (all-both (all-expr e n Γ l c (f .1)) (one-node (expr-node Γ (alloc p t e)) (comparable (alloc p t e) (suc n) le c f)))
+  all-expr (nth-expr p a b) zero Γ le c f = absurd f
+  all-expr (nth-expr p a b) (suc n) Γ le c f = let l : n ≤ 63 = omega (arith, le) in
+      all-both (all-expr a n Γ l c (f .0)) (all-both (all-expr b n Γ l c (f .1)) (one-node (expr-node Γ (nth-expr p a b)) (comparable (nth-expr p a b) (suc n) le c f)))
+  all-expr (len p a) zero Γ le c f = absurd f
+  all-expr (len p a) (suc n) Γ le c f = let l : n ≤ 63 = omega (arith, le) in
+      all-both (all-expr a n Γ l c f) (one-node (expr-node Γ (len p a)) (comparable (len p a) (suc n) le c f))
+  all-expr (vset p a b d) zero Γ le c f = absurd f
+  all-expr (vset p a b d) (suc n) Γ le c f = let l : n ≤ 63 = omega (arith, le) in
+      all-both (all-expr a n Γ l c (f .0)) (all-both (all-expr b n Γ l c (f .1))
+      (all-both (all-expr d n Γ l c (f .2)) (one-node (expr-node Γ (vset p a b d)) (comparable (vset p a b d) (suc n) le c f))))
 
   all-exprs : (es : Exprs) (n : ℕ) (Γ : Ctx) → n ≤ 63 → CtxFits Γ → FitsExprs es n → AllNodes Comparable (nodes-exprs Γ es)
   all-exprs (one-expr e) n Γ le c f = all-expr e n Γ le c f
@@ -198,13 +244,13 @@ mutual
   all-cmds (last s) n Γ le c f = all-stat s n Γ le c f
 
   all-def : (d : Def) (n : ℕ) (Γ : Ctx) → n ≤ 63 → CtxFits Γ → FitsDef d n → AllNodes Comparable (nodes-def Γ d)
-  all-def (const p x t e) n Γ le c f = all-both (all-expr e n Γ le c (f .1)) (one-node (def-node Γ (const p x t e)) tt)
-  all-def (fun p x t ps e) n Γ le c f = all-both (all-params (values ps))
-      (all-both (all-expr e n _ le (params-fit (values ps) n (omega (arith, le)) (f .1) c) (f .2)) (one-node (def-node Γ (fun p x t ps e)) tt))
-  all-def (fun-rec p (at q x) t ps e) n Γ le c f = all-both (all-params (values ps))
+  all-def (const p x t e) n Γ le c f = all-both (all-type t) (all-both (all-expr e n Γ le c (f .1)) (one-node (def-node Γ (const p x t e)) tt))
+  all-def (fun p x t ps e) n Γ le c f = all-both (all-type t) (all-both (all-params (values ps))
+      (all-both (all-expr e n _ le (params-fit (values ps) n (omega (arith, le)) (f .1) c) (f .2)) (one-node (def-node Γ (fun p x t ps e)) tt)))
+  all-def (fun-rec p (at q x) t ps e) n Γ le c f = all-both (all-type t) (all-both (all-params (values ps))
       (all-both
-      (all-expr e n _ le (name-fits (fun-fits ps t n le (f .0) (f .1)) (params-fit (values ps) n (omega (arith, le)) (f .1) c)) (f .2)) (one-node (def-node Γ (fun-rec p (at q x) t ps e)) tt))
-  all-def (var p x t) n Γ le c f = one-node (def-node Γ (var p x t)) tt
+      (all-expr e n _ le (name-fits (fun-fits ps t n le (f .0) (f .1)) (params-fit (values ps) n (omega (arith, le)) (f .1) c)) (f .2)) (one-node (def-node Γ (fun-rec p (at q x) t ps e)) tt)))
+  all-def (var p x t) n Γ le c f = all-both (all-type t) (one-node (def-node Γ (var p x t)) tt)
   all-def (proc p x ps b) n Γ le c f = all-both (all-params ps)
       (all-both (all-block b n _ (omega (arith, le)) (params-fit ps n (omega (arith, le)) (f .0) c) (f .1)) (one-node (def-node Γ (proc p x ps b)) tt))
   all-def (proc-rec p (at q x) ps b) n Γ le c f = all-both (all-params ps)

@@ -5,7 +5,7 @@ use mathlib.Core.Bool.{Bool, true, false, cond}
 use mathlib.Core.List.{[], _∷_}
 use mathlib.Core.Option.{Option, none, some, Option·none-ne-some}
 use lib.Dec.{T, eqb, eqb→eq, eqb-refl}
-use Rattle.language.specs.Syntax.{Name, at, Expr, num, name, if-expr, and, or, app, abs}
+use Rattle.language.specs.Syntax.{Name, at, Expr, num, name, if-expr, and, or, app, abs, alloc, nth-expr, len, vset}
 use Rattle.language.specs.Bytes.{same-bytes}
 use Rattle.language.specs.Names.{Meaning, literal, operator, free, lookup, meaning, unless-nine, operator-of, head-operator}
 use Rattle.language.specs.Types.{Ty, Entity, Ctx}
@@ -57,3 +57,7 @@ head-typed (and p a b) h = refl
 head-typed (or p a b) h = refl
 head-typed (app p f es) h = refl
 head-typed (abs p ps e) h = refl
+head-typed (alloc p t e) h = refl
+head-typed (nth-expr p a b) h = refl
+head-typed (len p a) h = refl
+head-typed (vset p a b c) h = refl

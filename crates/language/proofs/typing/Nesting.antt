@@ -1,8 +1,8 @@
--- Levels (document 01): a block, a parenthesised expression, an (adr x), an abstraction to the end of its body, and a function type each open one level.
+-- Levels (document 01): a block, a parenthesised expression, an (adr x), an abstraction to the end of its body, a function type and a vec type each open one level.
 -- Parameter lists open none. A tree fits n levels when it opens no more than n, one inside another.
 use Prim.Native.Nat.{ℕ}
 use mathlib.Core.List.{List, [], _∷_}
-use Rattle.language.specs.Syntax.{TypeTree, bool, int, arrow, TypeTrees, one-type, more-types, ArgP, val-arg, var-arg, Expr, num, name, if-expr, and, or, app, abs, Exprs, one-expr, more-exprs, ExprP, val, adr, Cmds, last, def-then, stat-then, Def, const, fun, fun-rec, var, proc, proc-rec, Stat, echo, set, if-stat, while, call, Block, block}
+use Rattle.language.specs.Syntax.{TypeTree, bool, int, arrow, vec, TypeTrees, one-type, more-types, ArgP, val-arg, var-arg, Expr, num, name, if-expr, and, or, app, abs, alloc, nth-expr, len, vset, Exprs, one-expr, more-exprs, ExprP, val, adr, Cmds, last, def-then, stat-then, Def, const, fun, fun-rec, var, proc, proc-rec, Stat, echo, set, if-stat, while, call, Block, block}
 use Rattle.language.specs.Types.{values}
 use Rattle.language.specs.Claims.{Opened}
 
@@ -11,6 +11,7 @@ abbrev mutual
   FitsType (bool p) n = Unit {0}
   FitsType (int p) n = Unit {0}
   FitsType (arrow p ts t) n = Opened n λ m. FitsTypes ts m × FitsType t m
+  FitsType (vec p t) n = Opened n λ m. FitsType t m
 
   pub FitsTypes : TypeTrees → ℕ → Type 0
   FitsTypes (one-type t) n = FitsType t n
@@ -33,6 +34,10 @@ abbrev mutual
   FitsExpr (or p a b) n = Opened n λ m. FitsExpr a m × FitsExpr b m
   FitsExpr (app p f es) n = Opened n λ m. FitsExpr f m × FitsExprs es m
   FitsExpr (abs p ps e) n = Opened n λ m. FitsParams (values ps) m × FitsExpr e m
+  FitsExpr (alloc p t e) n = Opened n λ m. FitsType t m × FitsExpr e m
+  FitsExpr (nth-expr p a b) n = Opened n λ m. FitsExpr a m × FitsExpr b m
+  FitsExpr (len p a) n = Opened n λ m. FitsExpr a m
+  FitsExpr (vset p a b c) n = Opened n λ m. FitsExpr a m × FitsExpr b m × FitsExpr c m
 
   pub FitsExprs : Exprs → ℕ → Type 0
   FitsExprs (one-expr e) n = FitsExpr e n

@@ -3,11 +3,11 @@ use mathlib.Core.Path.{_≡_, refl, sym, ap, ap₂, subst}
 use mathlib.Core.Bool.{Bool, true, false}
 use mathlib.Core.List.{List, [], _∷_}
 use lib.Dec.{T}
-use Rattle.language.specs.Syntax.{Name, at, ArgP, val-arg, var-arg}
+use Rattle.language.specs.Syntax.{Name, at, TypeTree, bool, int, arrow, vec, ArgP, val-arg, var-arg}
 use Rattle.language.specs.Names.{Meaning, literal, operator, free, meaning}
-use Rattle.language.specs.Types.{Base, boolean, integer, Ty, base, fn, Tys, tnil, tcons, typeOf, Par, value, ref}
-use Rattle.language.specs.Typing.{Free, IsBase, Declarable}
-use Rattle.language.proofs.typing.Judge.{andb, same-base, same-type, same-types, same-par, same-pars, is-free, is-base, declarable}
+use Rattle.language.specs.Types.{Base, boolean, integer, Ty, base, fn, vec-of, Tys, tnil, tcons, typeOf, Par, value, ref, param-type}
+use Rattle.language.specs.Typing.{Free, IsBase, IsElement, Formed, Declarable}
+use Rattle.language.proofs.typing.Judge.{andb, same-base, same-type, same-types, same-par, same-pars, is-free, is-base, is-element, declarable}
 
 pub andb-l : (a b : Bool) → T (andb a b) → T a
 andb-l true b h = tt
@@ -37,9 +37,14 @@ mutual
   pub same-type-is : (a b : Ty) → T (same-type a b) → a ≡ b
   same-type-is (base a) (base b) h = ap base (same-base-is a b h)
   same-type-is (base a) (fn us u) h = absurd h
+  same-type-is (base a) (vec-of u) h = absurd h
   same-type-is (fn ts t) (base b) h = absurd h
   same-type-is (fn ts t) (fn us u) h =
       ap₂ fn (same-types-is ts us (andb-l (same-types ts us) (same-type t u) h)) (same-type-is t u (andb-r (same-types ts us) (same-type t u) h))
+  same-type-is (fn ts t) (vec-of u) h = absurd h
+  same-type-is (vec-of t) (base b) h = absurd h
+  same-type-is (vec-of t) (fn us u) h = absurd h
+  same-type-is (vec-of t) (vec-of u) h = ap vec-of (same-type-is t u h)
 
   pub same-types-is : (a b : Tys) → T (same-types a b) → a ≡ b
   same-types-is tnil tnil h = refl
@@ -54,6 +59,7 @@ mutual
   pub same-type-refl : (a : Ty) → T (same-type a a)
   same-type-refl (base a) = same-base-refl a
   same-type-refl (fn ts t) = andb-in (same-types ts ts) (same-type t t) (same-types-refl ts) (same-type-refl t)
+  same-type-refl (vec-of t) = same-type-refl t
 
   pub same-types-refl : (a : Tys) → T (same-types a a)
   same-types-refl tnil = tt
@@ -95,16 +101,39 @@ free-in x h = subst (λ m. T (is-free m)) (sym h) tt
 pub base-in : (t : Ty) → IsBase t → T (is-base t)
 base-in (base b) h = tt
 base-in (fn ts t) h = h
+base-in (vec-of t) h = h
 
 pub base-is : (t : Ty) → T (is-base t) → IsBase t
 base-is (base b) h = tt
 base-is (fn ts t) h = h
+base-is (vec-of t) h = h
+
+pub element-in : (t : Ty) → IsElement t → T (is-element t)
+element-in (base b) h = tt
+element-in (fn ts t) h = h
+element-in (vec-of t) h = tt
+
+pub element-is : (t : Ty) → T (is-element t) → IsElement t
+element-is (base b) h = tt
+element-is (fn ts t) h = h
+element-is (vec-of t) h = tt
+
+-- bool and int may be written
+pub base-formed : (t : TypeTree) → IsBase (typeOf t) → Formed t
+base-formed (bool p) h = tt
+base-formed (int p) h = tt
+base-formed (arrow p ts t) h = absurd h
+base-formed (vec p t) h = absurd h
+
+pub param-formed : (a : ArgP) → Declarable a → Formed (param-type a)
+param-formed (val-arg (at p x) t) h = h .1
+param-formed (var-arg (at p x) t) h = base-formed t (h .1)
 
 pub declarable-in : (a : ArgP) → Declarable a → T (declarable a)
-declarable-in (val-arg (at p x) t) h = free-in x h
+declarable-in (val-arg (at p x) t) h = free-in x (h .0)
 declarable-in (var-arg (at p x) t) h = andb-in (is-free (meaning x)) (is-base (typeOf t)) (free-in x (h .0)) (base-in (typeOf t) (h .1))
 
-pub declarable-is : (a : ArgP) → T (declarable a) → Declarable a
-declarable-is (val-arg (at p x) t) h = free-is x h
-declarable-is (var-arg (at p x) t) h =
+pub declarable-is : (a : ArgP) → Formed (param-type a) → T (declarable a) → Declarable a
+declarable-is (val-arg (at p x) t) f h = (free-is x h, f)
+declarable-is (var-arg (at p x) t) f h =
     (free-is x (andb-l (is-free (meaning x)) (is-base (typeOf t)) h), base-is (typeOf t) (andb-r (is-free (meaning x)) (is-base (typeOf t)) h))

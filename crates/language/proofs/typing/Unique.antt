@@ -5,15 +5,15 @@ use mathlib.Core.Bool.{Bool, true, false}
 use mathlib.Core.List.{List, [], _∷_}
 use mathlib.Core.Option.{Option, none, some, Option·none-ne-some}
 use lib.Dec.{T}
-use Rattle.language.specs.Syntax.{Name, at, ArgP, Expr, num, name, if-expr, and, or, app, abs, Exprs, one-expr, more-exprs, ExprP, val, adr, Cmds, last, def-then, stat-then, Def, const, fun, fun-rec, var, proc, proc-rec, Stat, echo, set, if-stat, while, call, Block, block}
+use Rattle.language.specs.Syntax.{Name, at, TypeTree, bool, int, arrow, vec, TypeTrees, one-type, more-types, ArgP, Expr, num, name, if-expr, and, or, app, abs, alloc, nth-expr, len, vset, Exprs, one-expr, more-exprs, ExprP, val, adr, Cmds, last, def-then, stat-then, Def, const, fun, fun-rec, var, proc, proc-rec, Stat, echo, set, if-stat, while, call, Block, block}
 use Rattle.language.specs.Answers.{Result, fine}
 use Rattle.language.specs.Names.{Op, Meaning, literal, operator, free, lookup, meaning, unless-nine, head-operator}
-use Rattle.language.specs.Types.{Ty, base, fn, Tys, BOOL, INT, typeOf, Par, ref, Entity, plain, procedure, Ctx, find, values, takes, result}
-use Rattle.language.specs.Typing.{Free, DeclarableAfter, AllDeclarable, HasE, NUM, LITERAL, IDV, IDR, IF, AND, OR, PRIM, APP, ABS, HasEs, ONE, MORE, HasA, REF, VAL, HasAs, NO-ARGS, ARGS, HasB, BLOC, HasC, DECS, STATS, END, HasD, CONST, FUN, FUNREC, VAR, PROC, PROCREC, HasS, ECHO, SET, IFS, WHILE, CALL}
+use Rattle.language.specs.Types.{Ty, base, fn, vec-of, Tys, BOOL, INT, typeOf, Par, ref, Entity, plain, procedure, Ctx, find, values, takes, result}
+use Rattle.language.specs.Typing.{Free, Formed, AllFormed, DeclarableAfter, AllDeclarable, HasE, NUM, LITERAL, IDV, IDR, IF, AND, OR, PRIM, APP, ABS, ALLOC, NTH, LEN, VSET, HasEs, ONE, MORE, HasA, REF, VAL, HasAs, NO-ARGS, ARGS, HasB, BLOC, HasC, DECS, STATS, END, HasD, CONST, FUN, FUNREC, VAR, PROC, PROCREC, HasS, ECHO, SET, IFS, WHILE, CALL}
 use Rattle.language.specs.Order.{after-def}
 use Rattle.language.proofs.typing.Names.{head-typed}
-use Rattle.language.proofs.typing.Judge.{andThen, judged, only, passes, single, andb, same-type, is-free, is-base, read-type, name-type, judge-app, judge-after, judge-params, judge-expr, judge-exprs, ref-type, call-pars, fits-ref, fits-call, as-ref, judge-arg, judge-args, judge-block, judge-cmds, judge-def, judge-stat}
-use Rattle.language.proofs.typing.SameType.{andb-in, same-type-refl, same-types-refl, same-pars-refl, free-in, base-in, declarable-in}
+use Rattle.language.proofs.typing.Judge.{andThen, judged, only, passes, single, andb, same-type, is-free, is-base, read-type, name-type, judge-app, judge-type, judge-types, judge-after, judge-params, judge-expr, judge-exprs, ref-type, call-pars, fits-ref, fits-call, as-ref, judge-arg, judge-args, judge-block, judge-cmds, judge-def, judge-stat}
+use Rattle.language.proofs.typing.SameType.{andb-in, same-type-refl, same-types-refl, same-pars-refl, free-in, base-in, element-in, base-formed, param-formed, declarable-in}
 
 -- a result that is there, and is a
 pub data Is {A : Type 0} (a : A) : Result A → Type 0 where
@@ -49,6 +49,19 @@ bound-in (literal b) o e h = absurd (Option·none-ne-some _ e)
 bound-in (operator f) o e h = absurd (Option·none-ne-some _ e)
 bound-in {t = t} free o e h = subst (λ o. IsO t (read-type o)) (sym e) h
 
+mutual
+  unfolding judge-type
+
+  pub complete-type : (t : TypeTree) → Formed t → Is tt (judge-type t)
+  complete-type (bool p) h = is
+  complete-type (int p) h = is
+  complete-type (arrow p ts t) h = is-then _ (complete-types ts (h .0)) (complete-type t (h .1))
+  complete-type (vec p t) h = is-then _ (complete-type t (h .0)) (is-pass _ _ (element-in (typeOf t) (h .1)))
+
+  pub complete-types : (ts : TypeTrees) → AllFormed ts → Is tt (judge-types ts)
+  complete-types (one-type t) h = complete-type t h
+  complete-types (more-types t ts) h = is-then _ (complete-type t (h .0)) (complete-types ts (h .1))
+
 pub is-single : (p : ℕ) (b : Bool) → b ≡ false → Is tt (single p b)
 unfolding single
 is-single p true h = absurd (subst T h tt)
@@ -57,7 +70,8 @@ is-single p false h = is
 complete-after : (xs : List Name) (ps : List ArgP) → DeclarableAfter xs ps → Is tt (judge-after xs ps)
 unfolding judge-after
 complete-after xs [] h = is
-complete-after xs (a ∷ ps) h = is-then _ (is-pass _ _ (declarable-in a (h .0))) (is-then _ (is-single _ _ (h .1)) (complete-after _ ps (h .2)))
+complete-after xs (a ∷ ps) h =
+    is-then _ (complete-type _ (param-formed a (h .0))) (is-then _ (is-pass _ _ (declarable-in a (h .0))) (is-then _ (is-single _ _ (h .1)) (complete-after _ ps (h .2))))
 
 pub complete-params : (ps : List ArgP) → AllDeclarable ps → Is tt (judge-params ps)
 complete-params ps h = complete-after [] ps h
@@ -87,6 +101,12 @@ mutual
   complete-expr (app p f es) {Γ} (PRIM e ds) = prim-in p (judge-expr Γ f) (head-operator f) e (complete-exprs es ds)
   complete-expr (app p f es) (APP d ds) = app-in p (head-operator f) (head-typed f d) (complete-expr f d) (complete-exprs es ds)
   complete-expr (abs p ps e) (ABS g d) = is-then _ (complete-params (values ps) g) (is-then _ (complete-expr e d) (is-judged _ isO))
+  complete-expr (alloc p t e) (ALLOC f d) =
+      is-then _ (complete-type t (f .0)) (is-then _ (complete-expr e d) (is-judged _ (is-only _ (element-in (typeOf t) (f .1)) (is-only _ (same-type-refl INT) isO))))
+  complete-expr (nth-expr p a b) (NTH da db) = is-then _ (complete-expr a da) (is-then _ (complete-expr b db) (is-judged _ (is-only _ (same-type-refl INT) isO)))
+  complete-expr (len p a) (LEN d) = is-then _ (complete-expr a d) (is-judged _ isO)
+  complete-expr (vset p a b c) (VSET {t = t} da db dc) =
+      is-then _ (complete-expr a da) (is-then _ (complete-expr b db) (is-then _ (complete-expr c dc) (is-judged _ (is-only _ (same-type-refl INT) (is-only _ (same-type-refl t) isO)))))
 
   pub complete-exprs : (es : Exprs) {Γ : Ctx} {ts : Tys} → HasEs Γ es ts → Is ts (judge-exprs Γ es)
   complete-exprs (one-expr e) (ONE d) = is-then _ (complete-expr e d) is
@@ -119,9 +139,9 @@ call-in : {o : Option Entity} {qs : List Par} → o ≡ some (procedure qs) → 
 call-in {qs = qs} e = subst (λ o. T (fits-call (call-pars o) qs)) (sym e) (same-pars-refl qs)
 
 def-ctx : (d : Def) {Γ Δ : Ctx} → HasD Γ d Δ → Δ ≡ after-def d Γ
-def-ctx (const p (at q x) t e) (CONST f h) = refl
-def-ctx (fun p (at q x) t ps e) (FUN f g h) = refl
-def-ctx (fun-rec p (at q x) t ps e) (FUNREC f g h) = refl
+def-ctx (const p (at q x) t e) (CONST f w h) = refl
+def-ctx (fun p (at q x) t ps e) (FUN f w g h) = refl
+def-ctx (fun-rec p (at q x) t ps e) (FUNREC f w g h) = refl
 def-ctx (var p (at q x) t) (VAR f i) = refl
 def-ctx (proc p (at q x) ps b) (PROC f g h) = refl
 def-ctx (proc-rec p (at q x) ps b) (PROCREC f g h) = refl
@@ -142,10 +162,13 @@ mutual
   complete-cmds (last c) (END h) = complete-stat c h
 
   pub complete-def : (d : Def) {Γ Δ : Ctx} → HasD Γ d Δ → Is tt (judge-def Γ d)
-  complete-def (const p (at q x) t e) (CONST f h) = is-then _ (complete-expr e h) (defines p x (typeOf t) f)
-  complete-def (fun p (at q x) t ps e) (FUN f g h) = is-then _ (complete-params (values ps) g) (is-then _ (complete-expr e h) (defines p x (typeOf t) f))
-  complete-def (fun-rec p (at q x) t ps e) (FUNREC f g h) = is-then _ (complete-params (values ps) g) (is-then _ (complete-expr e h) (defines p x (typeOf t) f))
-  complete-def (var p (at q x) t) (VAR f i) = is-pass _ _ (andb-in (is-free (meaning x)) (is-base (typeOf t)) (free-in x f) (base-in (typeOf t) i))
+  complete-def (const p (at q x) t e) (CONST f w h) = is-then _ (complete-type t w) (is-then _ (complete-expr e h) (defines p x (typeOf t) f))
+  complete-def (fun p (at q x) t ps e) (FUN f w g h) =
+      is-then _ (complete-type t w) (is-then _ (complete-params (values ps) g) (is-then _ (complete-expr e h) (defines p x (typeOf t) f)))
+  complete-def (fun-rec p (at q x) t ps e) (FUNREC f w g h) =
+      is-then _ (complete-type t w) (is-then _ (complete-params (values ps) g) (is-then _ (complete-expr e h) (defines p x (typeOf t) f)))
+  complete-def (var p (at q x) t) (VAR f i) =
+      is-then _ (complete-type t (base-formed t i)) (is-pass _ _ (andb-in (is-free (meaning x)) (is-base (typeOf t)) (free-in x f) (base-in (typeOf t) i)))
   complete-def (proc p (at q x) ps b) (PROC f g h) = is-then _ (complete-params ps g) (is-then _ (complete-block b h) (is-pass _ _ (free-in x f)))
   complete-def (proc-rec p (at q x) ps b) (PROCREC f g h) = is-then _ (complete-params ps g) (is-then _ (complete-block b h) (is-pass _ _ (free-in x f)))
 
