@@ -9,7 +9,7 @@ use lib.ListN.{length, getD}
 use borrow.Author.Tests.{ne-eqb}
 use Rattle.language.specs.Claims.{TyFits, AllNodes, Comparable}
 use Rattle.language.specs.Answers.{fine}
-use Rattle.language.specs.Syntax.{Name, TypeTree, bool, int, arrow, Arg, ArgP, Expr, Block}
+use Rattle.language.specs.Syntax.{Name, TypeTree, Arg, ArgP, Expr, Block}
 use Rattle.language.specs.Places.{place-expr}
 use Rattle.language.specs.Names.{meaning, head-operator}
 use Rattle.language.specs.Words.{nameAt}
@@ -17,7 +17,7 @@ use Rattle.language.specs.Types.{Ty, typeOf, Par, value, ref, Entity, plain, pr
 use Rattle.language.specs.Typing.{IsBase}
 use Rattle.language.specs.Order.{nodes-expr}
 use Rattle.language.proofs.reading.Standing.{Stands, inArgsP, inExpr}
-use Rattle.language.proofs.typing.Judge.{andThen, passes, andb, same-type, is-free, is-base, judge-params, judge-expr, judge-block}
+use Rattle.language.proofs.typing.Judge.{andThen, passes, andb, same-type, is-free, is-base, judge-params, judge-expr, judge-block, judge-type}
 use Rattle.judge.specs.Names.{nineAt}
 use Rattle.judge.specs.Scopes.{pick, placeAt, childAt, nextAt, roleIn, rowOf, bindsOf, rowAfter, innerAt, outerAt, binderPlace}
 use Rattle.judge.specs.Types.{isFun, partsOf, resultType}
@@ -27,15 +27,9 @@ use Rattle.judge.proofs.Scoping.{first, sits-end}
 use Rattle.judge.proofs.Spelling.{Spells, s-fn, same-right, row-in, Row, row-last, row-more, row-parts, Gets}
 use Rattle.judge.proofs.Verdicts.{Run, One, Own, own-fine, Sit, Seat, seat, kids-done, below, kids-then, kids-past, node-one}
 use Rattle.judge.proofs.Looking.{Written, Binder, binds-value, binds-ref, binds-proc, Looks, looks-more, Scope, scope-up, scope-inner, scope-outer, Front}
-use Rattle.judge.proofs.Written.{first-params, params-values, type-one, type-written, here-in, kind-here, last-part}
-use Rattle.judge.proofs.Parameters.{nine-free, own-pass, free-rule, cell-rule, type-later, params-take, params-kids}
+use Rattle.judge.proofs.Written.{first-params, params-values, type-one, type-written, here-in, kind-here, last-part, type-binds, own-pass}
+use Rattle.judge.proofs.Parameters.{nine-free, free-rule, cell-rule, type-later, params-take, params-kids}
 use Rattle.judge.proofs.Expressions.{has-at, role-here, env-here, plain-role, listed-role, node-fine, behind′, expr-one}
-
-pub type-binds : (t : TypeTree) → bindsOf (kind-type t) ≡ 0
-unfolding bindsOf
-type-binds (bool p) = refl
-type-binds (int p) = refl
-type-binds (arrow p ts t) = refl
 
 -- a verdict with no more to say
 abbrev pub Fine : Unit {0} → Type 0
@@ -184,7 +178,8 @@ module _ (g : Run) where
   pub const-one : (p q : ℕ) (x : Name) (t : TypeTree) (e : Expr) {n m row row′ v role : ℕ} {s : Nodes} {Γ : Ctx}
       (h : Seat g 2 p (node 19 q end (type-row t (expr-row e end))) s n m row row′ v) → m ≤ g.count → Scope g n v role Γ → x ≡ nameAt g.text q
       → inExpr e (Stands g.text) → AllNodes Comparable (nodes-expr Γ e)
-      → One g Fine n (h .mid) (andThen (judge-expr Γ e) λ τ. passes p (andb (is-free (meaning x)) (same-type τ (typeOf t))))
+      → One g Fine n (h .mid)
+      (andThen (judge-type t) λ w. andThen (judge-expr Γ e) λ τ. passes p (andb (is-free (meaning x)) (same-type τ (typeOf t))))
   unfolding ownBy defBy roleIn rowOf bindsOf
   const-one p q x t e {n} h l sc i se qe =
       let d = name-seat t h l in
@@ -194,12 +189,12 @@ module _ (g : Run) where
       let sd = scope-inner g h {role = 1} refl refl (scope-up g (omega arith) sc) in
       let zy : 0 < d .mid = omega (arith, below g d) in
       let zb : 0 < y .mid = omega (arith, below g y) in
-      node-one g h l (kids-past g d (omega arith) (silent-name d u sd) (kids-past g y zy (type-one g t y u)
+      node-one g h l (kids-past g d (omega arith) (silent-name d u sd) (kids-then g y zy _ (type-one g t y u) (λ wy wr wf.
       (kids-then g b zb _ (expr-one g e b u zb (scope-outer g y (type-binds t) (scope-outer g d refl sd)) (plain-role g (head-operator e)) se qe) (λ τ r k.
       kids-done g (b .rest) (λ M ag. rw (h .child)
       (def-own (suc n) q (d .mid) (y .mid) x t M (d .place) i (d .next)
       (last-two t h l refl (λ a c. row-final a (last-part g g.notes 0 (λ j. j ≡ y .mid) b u zb refl) c))
-      (type-is t h l) (k .1) (has-at g (suc n) M ag (omega (arith, below g d, below g y)) (k .0))))))))
+      (type-is t h l) (k .1) (has-at g (suc n) M ag (omega (arith, below g d, below g y)) (k .0)))))))))
 
   -- FUN and FUN REC, the REC name in front of the parameters
   pub fun-one : (k p q : ℕ) (x : Name) (t : TypeTree) (ps : List Arg) (e : Expr) (fs Γ : Ctx) {n m row row′ v : ℕ} {s : Nodes}
@@ -207,7 +202,7 @@ module _ (g : Run) where
       → ((M : List ℕ) → ownBy k g.text g.tree g.scopes M n ≡ defRule g.text g.tree M (childAt g.tree n))
       → Scope g (suc n) (innerAt g.tree g.scopes n) 1 (fs ++ Γ) → Front g (rowAfter g.tree n row) fs → x ≡ nameAt g.text q → inArgsP (values ps) (Stands g.text)
       → inExpr e (Stands g.text) → AllNodes Comparable (nodes-expr (fs ++ extend (declared (values ps)) Γ) e)
-      → One g Fine n (h .mid) (andThen (judge-params (values ps)) λ w. andThen (judge-expr (fs ++ extend (declared (values ps)) Γ) e) λ τ.
+      → One g Fine n (h .mid) (andThen (judge-type t) λ y. andThen (judge-params (values ps)) λ w. andThen (judge-expr (fs ++ extend (declared (values ps)) Γ) e) λ τ.
       passes p (andb (is-free (meaning x)) (same-type τ (typeOf t))))
   unfolding bindsOf
   fun-one k p q x t ps e fs Γ {n} h l own sd f i ia se qe =
@@ -217,7 +212,7 @@ module _ (g : Run) where
       let zy : 0 < d .mid = omega (arith, below g d) in
       let zp : 0 < y .mid = omega (arith, below g y) in
       let fp = subst (λ r. Front g r fs) (sym (type-later g t y ∙ name-later d)) f in
-      node-one g h l (kids-past g d (omega arith) (silent-name d u sd) (kids-past g y zy (type-one g t y u)
+      node-one g h l (kids-past g d (omega arith) (silent-name d u sd) (kids-then g y zy _ (type-one g t y u) (λ wy wr wf.
       (params-kids g (values ps) (kind-expr e) (place-expr e) (kids-expr e) end fs Γ _ (y .rest) u zp fp ia
       (scope-outer g y (type-binds t) (scope-outer g d refl sd)) (λ j ro ro′ w rl ys r a sj lj build.
       let b = seat g r in
@@ -227,22 +222,23 @@ module _ (g : Run) where
       (def-own (suc n) q (d .mid) j x t M (d .place) i (d .next)
       (last-two t h l (first-params (values ps) (kind-expr e) (place-expr e) (kids-expr e) end (y .mid))
       (λ c c′. row-final c (build g.notes 0 (λ a. a ≡ j) (last-part g g.notes 0 (λ a. a ≡ j) b u zj refl)) c′))
-      (type-is t h l) (k .1) (has-at g (suc n) M ag (omega (arith, below g d, below g y)) (k .0)))))))))
+      (type-is t h l) (k .1) (has-at g (suc n) M ag (omega (arith, below g d, below g y)) (k .0))))))))))
 
   -- VAR
   pub var-one : (p q : ℕ) (x : Name) (t : TypeTree) {n m row row′ v role : ℕ} {s : Nodes} {Γ : Ctx}
       (h : Seat g 5 p (node 19 q end (type-row t end)) s n m row row′ v)
       → m ≤ g.count → Scope g n v role Γ → x ≡ nameAt g.text q
-      → One g (λ u. andb (is-free (meaning x)) (is-base (typeOf t)) ≡ true) n (h .mid) (passes p (andb (is-free (meaning x)) (is-base (typeOf t))))
+      → One g (λ u. andb (is-free (meaning x)) (is-base (typeOf t)) ≡ true) n (h .mid)
+      (andThen (judge-type t) λ w. passes p (andb (is-free (meaning x)) (is-base (typeOf t))))
   unfolding ownBy defBy roleIn rowOf
   var-one p q x t {n} h l sc i =
       let d = name-seat t h l in
       let y = type-seat t h l in
       let u = behind′ g h l in
       let sd = scope-inner g h {role = 1} refl refl (scope-up g (omega arith) sc) in
-      node-one g h l (kids-past g d (omega arith) (silent-name d u sd) (kids-past g y (omega (arith, below g d)) (type-one g t y u)
+      node-one g h l (kids-past g d (omega arith) (silent-name d u sd) (kids-then g y (omega (arith, below g d)) _ (type-one g t y u) (λ wy wr wf.
       (kids-done g (y .rest) (λ M ag.
-      rw (h .child, d .place, d .next, cell-rule g t q (d .mid) (y .kind), ← i) (own-pass g n p (andb (is-free (meaning x)) (is-base (typeOf t))) (λ e. e))))))
+      rw (h .child, d .place, d .next, cell-rule g t q (d .mid) (y .kind), ← i) (own-pass g n p (andb (is-free (meaning x)) (is-base (typeOf t))) (λ e. e)))))))
 
   -- PROC and PROC REC
   pub proc-one : (k p q : ℕ) (x : Name) (ps : List ArgP) (b : Block) (fs Γ : Ctx) {n m row row′ v : ℕ} {s : Nodes}

@@ -9,8 +9,8 @@ use Rattle.language.specs.Names.{meaning}
 use Rattle.nodes.specs.Nodes.{nodeAt}
 use Rattle.judge.specs.Names.{sameName, nineAt}
 use Rattle.judge.specs.Scopes.{pick, placeAt, envAt, roleAt, behindAt, roleIn, rowOf, bindsOf, rowAfter, innerAt, shownAt, outerAt, give, scopeStep, scopesFrom, scopesOf, binderPlace, findFrom, namedFrom}
-use Rattle.judge.specs.Types.{noteKind, isFun, partsOf, paramType, resultType, sameParts, same, argFits, fitsFrom}
-use Rattle.judge.specs.Rules.{hasKind, binderOf, readType, boundRule, nameRule, refType, targetType, ifRule, boolsRule, oneArg, twoArgs, operated, applied, appRule, adrRule, freeRule, isBase, cellRule, singleRule, lastFrom, defRule, partRule, setRule, isProc, called, callRule, defBy, statBy, paramBy, exprBy, ownBy}
+use Rattle.judge.specs.Types.{noteKind, isFun, partsOf, paramType, resultType, sameParts, same, argFits, fitsFrom, isVec}
+use Rattle.judge.specs.Rules.{hasKind, binderOf, readType, boundRule, nameRule, refType, targetType, ifRule, boolsRule, oneArg, twoArgs, operated, applied, appRule, adrRule, freeRule, isBase, cellRule, singleRule, lastFrom, defRule, partRule, setRule, isProc, called, callRule, defBy, statBy, paramBy, exprBy, ownBy, isElement, hasVec, allocRule, nthRule, lenRule, vsetRule, vecBy}
 use Rattle.judge.specs.Judge.{fineFrom, ruled, refuses, noteOf, answer, judgeDown, verdictOf}
 
 abbrev zeros : List ℕ → List ℕ
@@ -22,9 +22,9 @@ found t a = pick (eqb a 0) (λ _. 0) λ _. pick (ltb a 65537) (λ _. placeAt t (
 
 verdict : List ℕ → List ℕ → ℕ
 unfolding found nodeAt sameName nineAt meaning envAt roleAt behindAt roleIn rowOf bindsOf rowAfter innerAt shownAt outerAt give scopeStep scopesFrom scopesOf
-    binderPlace findFrom namedFrom noteKind isFun partsOf paramType resultType sameParts same argFits fitsFrom hasKind binderOf readType boundRule
+    binderPlace findFrom namedFrom noteKind isFun isVec partsOf paramType resultType sameParts same argFits fitsFrom hasKind binderOf readType boundRule
     nameRule refType targetType ifRule boolsRule oneArg twoArgs operated applied appRule adrRule freeRule isBase cellRule singleRule lastFrom defRule
-    partRule setRule isProc called callRule defBy statBy paramBy exprBy ownBy fineFrom ruled refuses noteOf answer judgeDown verdictOf
+    partRule setRule isProc called callRule defBy statBy paramBy exprBy isElement hasVec allocRule nthRule lenRule vsetRule vecBy ownBy fineFrom ruled refuses noteOf answer judgeDown verdictOf
 verdict x t = found t (verdictOf x t (length t) (zeros t) (zeros t))
 
 abbrev nine-bound-tree : List ℕ
@@ -184,3 +184,60 @@ doubled-rec-tree =
 doubled-rec : verdict (bytesOf "[FUN REC f int [f:int,f:int] 1; ECHO 1]") doubled-rec-tree ≡ 65559
 unfolding verdict
 doubled-rec = refl
+
+-- a vec of functions, behind and before a parameter that is refused
+abbrev vec-behind-tree : List ℕ
+vec-behind-tree =
+    281474976776192 ∷ 844429225230348 ∷ 5348046032338947 ∷ 4503629692141572 ∷ 3659226237173766 ∷ 4503668346847232 ∷ 3659264892010507 ∷
+    7318448179249152 ∷ 4785194863755264 ∷ 4503724181422090 ∷ 4503754246193152 ∷ 5348209241096192 ∷ 2251997383032832 ∷ 5066768624123904 ∷ []
+
+vec-behind : verdict (bytesOf "[FUN f int [not:int, x:(vec (int -> int))] y; ECHO 1]") vec-behind-tree ≡ 13
+unfolding verdict
+vec-behind = refl
+
+abbrev vec-before-tree : List ℕ
+vec-before-tree =
+    281474976776192 ∷ 844429225230346 ∷ 5348046032338947 ∷ 7318379459510279 ∷ 4785126144016384 ∷ 4503655461945350 ∷ 4503685526716416 ∷
+    3659290661879817 ∷ 4503732771356672 ∷ 5348179176325120 ∷ 2251967318130688 ∷ 5066738559352832 ∷ []
+
+vec-before : verdict (bytesOf "[FUN f (vec (int -> int)) [not:int] y; ECHO 1]") vec-before-tree ≡ 8
+unfolding verdict
+vec-before = refl
+
+abbrev alloc-last-tree : List ℕ
+alloc-last-tree =
+    281474976776192 ∷ 2251804108783616 ∷ 8162800094609408 ∷ 7599871616090112 ∷ 4785151913820167 ∷ 4503681231749126 ∷ 4503711296520192 ∷
+    5066682724777984 ∷ []
+
+alloc-last : verdict (bytesOf "[ECHO (len (alloc (int -> int) 1))]") alloc-last-tree ≡ 12
+unfolding verdict
+alloc-last = refl
+
+abbrev blocks-tree : List ℕ
+blocks-tree =
+    281474976776192 ∷ 562954248519688 ∷ 5348054622273539 ∷ 7318388049444869 ∷ 4503659756912640 ∷ 7599905975959552 ∷ 4503711296520199 ∷
+    5066678429810688 ∷ 2251945843163136 ∷ 7881466852278272 ∷ 8444438280601614 ∷ 5348239305867276 ∷ 5066772919091213 ∷ 5066781509025792 ∷
+    8163019138727936 ∷ 5348290845474816 ∷ []
+
+blocks : verdict (bytesOf "[CONST b (vec int) (alloc int 2); ECHO (nth (vset b 0 7) (len b))]") blocks-tree ≡ 0
+unfolding verdict
+blocks = refl
+
+abbrev blocks-of-blocks-tree : List ℕ
+blocks-of-blocks-tree =
+    281474976776192 ∷ 562954248519690 ∷ 5348054622273539 ∷ 7318388049444870 ∷ 7318409524346880 ∷ 4503681231749120 ∷ 7599931745828864 ∷
+    7318486833954825 ∷ 4503758541160448 ∷ 5066729969418240 ∷ 2251997382901760 ∷ 7881518392016896 ∷ 7881539866918927 ∷ 5348286550507534 ∷
+    5066820163731456 ∷ 5066833048633344 ∷ []
+
+blocks-of-blocks : verdict (bytesOf "[CONST b (vec (vec int)) (alloc (vec int) 1); ECHO (nth (nth b 0) 0)]") blocks-of-blocks-tree ≡ 0
+unfolding verdict
+blocks-of-blocks = refl
+
+abbrev vset-other-tree : List ℕ
+vset-other-tree =
+    281474976776192 ∷ 562954248519688 ∷ 5348054622273539 ∷ 7318388049444869 ∷ 4222184780201984 ∷ 7599910270926848 ∷ 4222240614776839 ∷
+    5066687019745280 ∷ 2251954433097728 ∷ 8162950418923520 ∷ 8444446870536192 ∷ 5348247895801868 ∷ 5066781509025805 ∷ 5066790098960384 ∷ []
+
+vset-other : verdict (bytesOf "[CONST b (vec bool) (alloc bool 2); ECHO (len (vset b 0 7))]") vset-other-tree ≡ 47
+unfolding verdict
+vset-other = refl

@@ -10,29 +10,29 @@ use lib.ListN.{length, getD}
 use borrow.Author.Tests.{ne-eqb}
 use Rattle.language.specs.Claims.{TyFits, AllNodes, no-node, one-more, Comparable}
 use Rattle.language.specs.Answers.{fine}
-use Rattle.language.specs.Syntax.{Name, at, Arg, Expr, num, name, if-expr, and, or, app, abs, Exprs, one-expr, more-exprs}
+use Rattle.language.specs.Syntax.{Name, at, Arg, Expr, num, name, if-expr, and, or, app, abs, alloc, nth-expr, len, vset, Exprs, one-expr, more-exprs, TypeTree}
 use Rattle.language.specs.Places.{place-expr}
 use Rattle.language.specs.Names.{Op, not, eq, lt, add, sub, mul, div, Meaning, literal, operator, free, lookup, meaning, unless-nine, operator-of, head-operator}
 use Rattle.language.specs.Words.{nameAt}
-use Rattle.language.specs.Types.{boolean, integer, Ty, base, fn, Tys, tnil, tcons, BOOL, INT, Par, value, ref, Entity, plain, procedure, Ctx, extend, values, pars, declared, arg-types}
+use Rattle.language.specs.Types.{boolean, integer, Ty, base, fn, Tys, tnil, tcons, BOOL, INT, Par, value, ref, Entity, plain, procedure, Ctx, extend, values, pars, declared, arg-types, vec-of, typeOf}
 use Rattle.language.specs.Typing.{HasE}
-use Rattle.language.specs.Order.{JudgedNode, expr-node, nodes-params, nodes-head, nodes-expr, nodes-exprs}
+use Rattle.language.specs.Order.{JudgedNode, expr-node, nodes-params, nodes-head, nodes-expr, nodes-exprs, nodes-type}
 use Rattle.language.proofs.reading.Standing.{Stands, inExpr, inExprs}
 use Rattle.language.proofs.reading.Payload.{name-stands}
-use Rattle.language.proofs.typing.Judge.{andThen, judged, only, andb, same-type, same-types, read-type, name-type, if-type, bools-type, prim-type, app-type, judge-app, judge-expr, judge-exprs}
+use Rattle.language.proofs.typing.Judge.{andThen, judged, only, andb, same-type, same-types, read-type, name-type, if-type, bools-type, prim-type, app-type, judge-app, judge-expr, judge-exprs, is-element, alloc-type, nth-type, len-type, vset-type}
 use Rattle.language.proofs.typing.Judged.{View, vfine, view-expr}
 use Rattle.nodes.specs.Names.{meaningNo}
 use Rattle.judge.specs.Names.{nineAt}
 use Rattle.judge.specs.Scopes.{pick, kindAt, placeAt, childAt, nextAt, envAt, roleAt, roleIn, rowOf, bindsOf, rowAfter, findFrom}
-use Rattle.judge.specs.Types.{noteKind, isFun, partsOf, resultType, fitsFrom}
-use Rattle.judge.specs.Rules.{hasKind, readType, boundRule, nameRule, ifRule, boolsRule, oneArg, twoArgs, operated, applied, appRule, exprBy, ownBy}
-use Rattle.judge.proofs.Shapes.{Nodes, end, node, kind-expr, kids-expr, exprs-row, expr-row}
+use Rattle.judge.specs.Types.{noteKind, isFun, partsOf, resultType, fitsFrom, isVec}
+use Rattle.judge.specs.Rules.{hasKind, readType, boundRule, nameRule, ifRule, boolsRule, oneArg, twoArgs, operated, applied, appRule, exprBy, ownBy, hasVec, allocRule, nthRule, lenRule, vsetRule, vecBy}
+use Rattle.judge.proofs.Shapes.{Nodes, end, node, kind-expr, kids-expr, exprs-row, expr-row, kind-type}
 use Rattle.judge.proofs.Scoping.{first}
 use Rattle.judge.proofs.Noting.{Agree}
-use Rattle.judge.proofs.Spelling.{pos-not, valuesOf, same-values, Spells, s-bool, s-int, s-fn, same-right, kind-bool, kind-int, spells-fine, no-operator, Gets, parts-row, row-parts, Row, gives-value, gives-ref, Args, args-none, args-more, Fitted, fitted, unfitted, fits-right, spells-move}
+use Rattle.judge.proofs.Spelling.{pos-not, valuesOf, same-values, Spells, s-bool, s-int, s-fn, same-right, kind-bool, kind-int, spells-fine, no-operator, Gets, parts-row, row-parts, Row, gives-value, gives-ref, Args, args-none, args-more, Fitted, fitted, unfitted, fits-right, spells-move, s-vec, vec-no-fun, fun-no-vec}
 use Rattle.judge.proofs.Verdicts.{Run, said-type, One, Kids, Own, own-fine, own-bad, one-map, Ends, ends, kids-bind, Sit, Seat, seat, kids-done, below, behind, kids-then, node-one}
 use Rattle.judge.proofs.Looking.{binds-value, binds-ref, binds-proc, Found, found-none, found, Scope, scope-up, scope-inner, scope-outer, no-front, Listed}
-use Rattle.judge.proofs.Written.{first-params, params-values, here-low, kind-here, last-part}
+use Rattle.judge.proofs.Written.{first-params, params-values, here-low, kind-here, last-part, type-binds, element-kind, type-one, type-written}
 use Rattle.judge.proofs.Parameters.{in-values, params-kids}
 
 first-exprs : (es : Exprs) (s : Nodes) (n : ℕ) → first (exprs-row es s) n ≡ n
@@ -49,6 +49,10 @@ expr-binds (and p a b) = refl
 expr-binds (or p a b) = refl
 expr-binds (app p f es) = refl
 expr-binds (abs p ps e) = refl
+expr-binds (alloc p t e) = refl
+expr-binds (nth-expr p a b) = refl
+expr-binds (len p a) = refl
+expr-binds (vset p a b c) = refl
 
 -- the nodes of a tree, and those behind it
 module _ {P : JudgedNode → Type 0} where
@@ -73,6 +77,10 @@ comparable (and p a b) Γ q = all-one (all-rest (nodes-expr Γ b) (all-rest (nod
 comparable (or p a b) Γ q = all-one (all-rest (nodes-expr Γ b) (all-rest (nodes-expr Γ a) q))
 comparable (app p f es) Γ q = all-one (all-rest (nodes-exprs Γ es) (all-rest (nodes-head (head-operator f) (nodes-expr Γ f)) q))
 comparable (abs p ps e) Γ q = all-one (all-rest (nodes-expr (extend (declared (values ps)) Γ) e) (all-rest (nodes-params (values ps)) q))
+comparable (alloc p t e) Γ q = all-one (all-rest (nodes-expr Γ e) (all-rest (nodes-type t) q))
+comparable (nth-expr p a b) Γ q = all-one (all-rest (nodes-expr Γ b) (all-rest (nodes-expr Γ a) q))
+comparable (len p a) Γ q = all-one (all-rest (nodes-expr Γ a) q)
+comparable (vset p a b c) Γ q = all-one (all-rest (nodes-expr Γ c) (all-rest (nodes-expr Γ b) (all-rest (nodes-expr Γ a) q)))
 
 fine-view : {A : Type 0} {P : A → Type 0} {R : List JudgedNode} {a : A} → View P R (fine a) → P a
 fine-view (vfine p al) = p
@@ -153,6 +161,55 @@ module _ (g : Run) where
       by-tests true false = own-bad said-type
       by-tests false B = own-bad said-type
 
+  -- (ALLOC), of the node n
+  alloc-own : {n p : ℕ} (y b : ℕ) (t : TypeTree) {σ : Ty} (M : List ℕ) → kindAt g.tree y ≡ kind-type t → nextAt g.tree y ≡ b
+      → Spells g.tree M (suc n) (getD M b 0) σ → eqb (n % 65536) 0 ≡ false → Spells g.tree g.notes n n (vec-of (typeOf t))
+      → Own g (Has n) n p (allocRule g.tree M n y) (judged p (alloc-type (typeOf t) σ))
+  unfolding allocRule judged only
+  alloc-own {n} {p} y b t {σ} M k e s f w =
+      rw (k, element-kind t, e, is-int M (suc n) b σ s) (by-tests (is-element (typeOf t)) (same-type σ INT))
+    where
+      by-tests : (A B : Bool)
+          → Own g (Has n) n p (pick A (λ _. pick B (λ _. n) λ _. 65536) λ _. 65536) (judged p (only A (only B (some (vec-of (typeOf t))))))
+      by-tests true true = own-fine {a = vec-of (typeOf t)} f (λ e. rw e w)
+      by-tests true false = own-bad said-type
+      by-tests false B = own-bad said-type
+
+  -- (NTH)
+  nth-own : {n p : ℕ} (a b : ℕ) (τ : Ty) {σ : Ty} (M : List ℕ) → Agree (suc n) g.notes M → nextAt g.tree a ≡ b
+      → Spells g.tree M (suc n) (getD M a 0) τ → Spells g.tree M (suc n) (getD M b 0) σ → Own g (Has n) n p (nthRule g.tree M a) (judged p (nth-type τ σ))
+  unfolding nthRule hasVec isVec judged only
+  nth-own a b (base boolean) M ag f (s-bool e) u = rw e (own-bad said-type)
+  nth-own a b (base integer) M ag f (s-int e) u = rw e (own-bad said-type)
+  nth-own a b (fn ts τ) M ag f (s-fn e w) u = rw (fun-no-vec (noteKind g.tree (getD M a 0)) e) (own-bad said-type)
+  nth-own {n} a b (vec-of τ) {σ} M ag f (s-vec e w) u = rw (e, f, is-int M (suc n) b σ u) (own-only M ag w (same-type σ INT))
+
+  -- (LEN)
+  len-own : {n p : ℕ} (a : ℕ) (τ : Ty) (M : List ℕ) → Agree (suc n) g.notes M
+      → Spells g.tree M (suc n) (getD M a 0) τ → Own g (Has n) n p (lenRule g.tree M a) (judged p (len-type τ))
+  unfolding lenRule hasVec isVec judged only
+  len-own a (base boolean) M ag (s-bool e) = rw e (own-bad said-type)
+  len-own a (base integer) M ag (s-int e) = rw e (own-bad said-type)
+  len-own a (fn ts τ) M ag (s-fn e w) = rw (fun-no-vec (noteKind g.tree (getD M a 0)) e) (own-bad said-type)
+  len-own {n} a (vec-of τ) M ag (s-vec e w) = rw e (own-typed M ag (int-note M (suc n)))
+
+  -- (VSET)
+  vset-own : {n p : ℕ} (a b c : ℕ) (τ : Ty) {σ ρ : Ty} (M : List ℕ) → Agree (suc n) g.notes M → nextAt g.tree a ≡ b → nextAt g.tree b ≡ c
+      → Spells g.tree M (suc n) (getD M a 0) τ → Spells g.tree M (suc n) (getD M b 0) σ → Spells g.tree M (suc n) (getD M c 0) ρ → TyFits ρ 128
+      → Own g (Has n) n p (vsetRule g.tree M a) (judged p (vset-type τ σ ρ))
+  unfolding vsetRule hasVec isVec judged only
+  vset-own a b c (base boolean) M ag f i (s-bool e) u v k = rw e (own-bad said-type)
+  vset-own a b c (base integer) M ag f i (s-int e) u v k = rw e (own-bad said-type)
+  vset-own a b c (fn ts τ) M ag f i (s-fn e w) u v k = rw (fun-no-vec (noteKind g.tree (getD M a 0)) e) (own-bad said-type)
+  vset-own {n} {p} a b c (vec-of τ) {σ} {ρ} M ag f i (s-vec e w) u v k =
+      rw (e, f, is-int M (suc n) b σ u, i, same-right g.tree M (suc n) 128 (getD M c 0) (childAt g.tree (getD M a 0)) ρ τ k v w)
+      (by-tests (same-type σ INT) (same-type ρ τ))
+    where
+      by-tests : (A B : Bool) → Own g (Has n) n p (pick A (λ _. pick B (λ _. getD M a 0) λ _. 65536) λ _. 65536) (judged p (only A (only B (some (vec-of τ)))))
+      by-tests true true = own-typed M ag (s-vec e w)
+      by-tests true false = own-bad said-type
+      by-tests false B = own-bad said-type
+
   -- ARGUMENTS
 
   pub args-move : {z : ℕ} {qs : List Par} (lo : ℕ) (M : List ℕ) → Agree lo g.notes M → Args g.tree g.notes lo z qs → Args g.tree M lo z qs
@@ -214,6 +271,7 @@ module _ (g : Run) where
   unfolding applied isFun judged only
   app-own M r (base boolean) us ag (s-bool e) a = rw e (own-bad said-type)
   app-own M r (base integer) us ag (s-int e) a = rw e (own-bad said-type)
+  app-own M r (vec-of τ) us ag (s-vec e w) a = rw (vec-no-fun (noteKind g.tree r) e) (own-bad said-type)
   app-own {n} {p} {z} M r (fn ts τ) us ag (s-fn e w) a =
       rw e (by-fit (same-types us ts)
       (subst (Fitted g.tree M (suc n) (Gets g.tree M (suc n) r τ) (fitsFrom g.tree M (length g.tree) (partsOf g.tree r) z)) (same-values us ts)
@@ -321,6 +379,10 @@ module _ (g : Run) where
   operator-one (or p a b) o e h l sc s = absurd (Option·none-ne-some _ e)
   operator-one (app p f es) o e h l sc s = absurd (Option·none-ne-some _ e)
   operator-one (abs p ps b) o e h l sc s = absurd (Option·none-ne-some _ e)
+  operator-one (alloc p t b) o e h l sc s = absurd (Option·none-ne-some _ e)
+  operator-one (nth-expr p a b) o e h l sc s = absurd (Option·none-ne-some _ e)
+  operator-one (len p a) o e h l sc s = absurd (Option·none-ne-some _ e)
+  operator-one (vset p a b c) o e h l sc s = absurd (Option·none-ne-some _ e)
 
   -- EXPRESSIONS
 
@@ -401,7 +463,7 @@ module _ (g : Run) where
   body-gets h l t = ((λ e. l), rw (h .kind) (has-low _ l t))
 
   mutual
-    unfolding judge-expr nodes-expr inExpr ownBy exprBy judged roleIn rowOf
+    unfolding judge-expr nodes-expr inExpr ownBy exprBy vecBy judged roleIn rowOf isVec
 
     pub expr-one : (e : Expr) {n m row row′ v role : ℕ} {s : Nodes} {Γ : Ctx} (h : Seat g (kind-expr e) (place-expr e) (kids-expr e) s n m row row′ v)
         → m ≤ g.count
@@ -479,6 +541,58 @@ module _ (g : Run) where
         own-fine (node-fine h l z) (λ e. rw e (abs-spells ps τ h l c (build g.notes n (Gets g.tree g.notes n n τ)
         (last-part g g.notes n (Gets g.tree g.notes n n τ) d u zi
         (body-gets h (omega arith) (t .0)))))))))))
+    expr-one (alloc p t e) {n} {Γ = Γ} h l z sc j s q =
+        let y = seat g (h .kids) in
+        let b = seat g (y .rest) in
+        let u = behind′ h l in
+        let sy = scope-inner g h {role = 0} refl refl (scope-up g (omega arith) sc) in
+        let zb : 0 < y .mid = omega (arith, below g y) in
+        fit-one (alloc p t e) Γ q (node-one g h l
+        (kids-then g y (omega arith) _ (type-one g t y u) (λ w r f.
+        kids-then g b zb _ (expr-one e b u zb (scope-outer g y (type-binds t) sy) (plain-role (head-operator e)) s
+        (all-front (nodes-expr Γ e) _ (all-rest (nodes-type t) q))) (λ τ rb kb.
+        kids-done g (b .rest) (λ M ag. rw (h .child)
+        (alloc-own (suc n) (y .mid) t M (y .kind) (y .next) (has-at (suc n) M ag (omega (arith, below g y)) (kb .0)) (node-fine h l z)
+        (s-vec {r = n} {τ = typeOf t} (rw (kind-here g h l)) (rw (h .child) (type-written g t y u (omega arith) g.notes n)))))))))
+    expr-one (nth-expr p a b) {n} {Γ = Γ} h l z sc j s q =
+        let ha = seat g (h .kids) in
+        let hb = seat g (ha .rest) in
+        let u = behind′ h l in
+        let sa = scope-inner g h {role = 0} refl refl (scope-up g (omega arith) sc) in
+        let zb : 0 < ha .mid = omega (arith, below g ha) in
+        fit-one (nth-expr p a b) Γ q (node-one g h l
+        (kids-then g ha (omega arith) _ (expr-one a ha u (omega arith) sa (plain-role (head-operator a)) (s .0) (all-front (nodes-expr Γ a) _ q)) (λ τ ra ka.
+        kids-then g hb zb _ (expr-one b hb u zb (scope-outer g ha (expr-binds a) sa) (plain-role (head-operator b)) (s .1)
+        (all-front (nodes-expr Γ b) _ (all-rest (nodes-expr Γ a) q))) (λ σ rb kb.
+        kids-done g (hb .rest) (λ M ag. rw (h .child)
+        (nth-own (suc n) (ha .mid) τ M ag (ha .next) (has-at (suc n) M ag (omega arith) (ka .0)) (has-at (suc n) M ag (omega (arith, below g ha)) (kb .0))))))))
+    expr-one (len p a) {n} {Γ = Γ} h l z sc j s q =
+        let ha = seat g (h .kids) in
+        let sa = scope-inner g h {role = 0} refl refl (scope-up g (omega arith) sc) in
+        fit-one (len p a) Γ q (node-one g h l
+        (kids-then g ha (omega arith) _ (expr-one a ha (behind′ h l) (omega arith) sa (plain-role (head-operator a)) s (all-front (nodes-expr Γ a) _ q)) (λ τ ra ka.
+        kids-done g (ha .rest) (λ M ag. rw (h .child) (len-own (suc n) τ M ag (has-at (suc n) M ag (omega arith) (ka .0)))))))
+    expr-one (vset p a b c) {n} {Γ = Γ} h l z sc j s q =
+        let ha = seat g (h .kids) in
+        let hb = seat g (ha .rest) in
+        let hc = seat g (hb .rest) in
+        let qa = all-front (nodes-expr Γ a) _ q in
+        let qr = all-rest (nodes-expr Γ a) q in
+        let qb = all-front (nodes-expr Γ b) _ qr in
+        let qc = all-front (nodes-expr Γ c) _ (all-rest (nodes-expr Γ b) qr) in
+        let u = behind′ h l in
+        let sa = scope-inner g h {role = 0} refl refl (scope-up g (omega arith) sc) in
+        let sb = scope-outer g ha (expr-binds a) sa in
+        let sd = scope-outer g hb (expr-binds b) sb in
+        let zb : 0 < ha .mid = omega (arith, below g ha) in
+        let zc : 0 < hb .mid = omega (arith, below g hb) in
+        fit-one (vset p a b c) Γ q (node-one g h l
+        (kids-then g ha (omega arith) _ (expr-one a ha u (omega arith) sa (plain-role (head-operator a)) (s .0) qa) (λ τ ra ka.
+        kids-then g hb zb _ (expr-one b hb u zb sb (plain-role (head-operator b)) (s .1) qb) (λ σ rb kb.
+        kids-then g hc zc _ (expr-one c hc u zc sd (plain-role (head-operator c)) (s .2) qc) (λ ρ rc kc.
+        kids-done g (hc .rest) (λ M ag. rw (h .child)
+        (vset-own (suc n) (ha .mid) (hb .mid) τ M ag (ha .next) (hb .next) (has-at (suc n) M ag (omega arith) (ka .0))
+        (has-at (suc n) M ag (omega (arith, below g ha)) (kb .0)) (has-at (suc n) M ag (omega (arith, below g ha, below g hb)) (kc .0)) (kc .1))))))))
 
     exprs-kids : (es : Exprs) (lo : ℕ) {n hi row row′ v : ℕ} {Γ : Ctx} → Sit g (exprs-row es end) n hi row row′ v → hi ≤ g.count → 0 < n → lo ≤ n
         → Scope g n v 0 Γ

@@ -8,24 +8,24 @@ use lib.Dec.{eqb}
 use lib.ListN.{length}
 use borrow.Author.Tests.{ne-eqb}
 use Rattle.language.specs.Answers.{Result, fine, refuse}
-use Rattle.language.specs.Syntax.{Name, at, TypeTree, bool, int, arrow, TypeTrees, one-type, more-types, Arg, arg, ArgP, val-arg, var-arg}
+use Rattle.language.specs.Syntax.{Name, at, TypeTree, bool, int, arrow, vec, TypeTrees, one-type, more-types, Arg, arg, ArgP, val-arg, var-arg}
 use Rattle.language.specs.Places.{place-param}
 use Rattle.language.specs.Names.{not, eq, lt, add, sub, mul, div, Meaning, literal, operator, free, meaning}
 use Rattle.language.specs.Words.{Word, nameAt}
-use Rattle.language.specs.Types.{Ty, base, fn, typeOf, plain, Ctx, extend, values, par, pars, param-name, declared}
+use Rattle.language.specs.Types.{Ty, base, fn, typeOf, plain, Ctx, extend, values, par, pars, param-name, declared, param-type, vec-of}
 use Rattle.language.specs.Typing.{IsBase, among}
 use Rattle.language.proofs.reading.Standing.{Stands, inArg, inArgs, inArgP, inArgsP}
 use Rattle.language.proofs.reading.Payload.{name-stands}
-use Rattle.language.proofs.typing.Judge.{andThen, judged, only, passes, single, andb, is-free, is-base, declarable, judge-after}
+use Rattle.language.proofs.typing.Judge.{andThen, judged, only, passes, single, andb, is-free, is-base, declarable, judge-after, judge-type}
 use Rattle.nodes.specs.Names.{meaningNo}
 use Rattle.judge.specs.Names.{nineAt}
 use Rattle.judge.specs.Scopes.{pick, kindAt, rowOf, bindsOf, rowAfter, innerAt}
 use Rattle.judge.specs.Types.{paramType}
 use Rattle.judge.specs.Rules.{readType, refType, isProc, isBase, freeRule, cellRule, singleRule, paramBy, ownBy}
-use Rattle.judge.proofs.Shapes.{Nodes, end, node, kind-type, place-type, kids-type, types-row, type-row, kind-param, type-param, params-row}
+use Rattle.judge.proofs.Shapes.{Nodes, end, node, kind-type, place-type, kids-type, types-row, type-row, kind-param, params-row}
 use Rattle.judge.proofs.Scoping.{sits-end}
 use Rattle.judge.proofs.Spelling.{Takes, takes-value, takes-ref, Row}
-use Rattle.judge.proofs.Verdicts.{Run, said-type, said-double, One, Kids, Own, own-fine, own-bad, Sit, Seat, seat, kids-done, below, behind, kids-then, kids-past, node-one}
+use Rattle.judge.proofs.Verdicts.{Run, said-type, said-double, One, Kids, Own, own-fine, own-bad, Sit, Seat, seat, kids-done, below, behind, kids-then, node-one}
 use Rattle.judge.proofs.Looking.{Written, Binder, binds-value, binds-ref, Scope, Front, Listed, first-listed, scope-param, named-is, next-listed}
 use Rattle.judge.proofs.Written.{first-params, type-one, here-low, here-in, last-part, part-more, type-written}
 
@@ -47,33 +47,30 @@ unfolding isBase
 base-kind (bool p) = refl
 base-kind (int p) = refl
 base-kind (arrow p ts t) = refl
+base-kind (vec p t) = refl
 
 pub base-true : (τ : Ty) → is-base τ ≡ true → IsBase τ
 base-true (base b) h = tt
 base-true (fn ts τ) h = let z : _≡_ {A = ℕ} 0 1 = cc in absurd (omega arith)
+base-true (vec-of τ) h = let z : _≡_ {A = ℕ} 0 1 = cc in absurd (omega arith)
 
 pub both-true : (a b : Bool) → andb a b ≡ true → (a ≡ true) × (b ≡ true)
 both-true true b h = (refl, h)
 both-true false b h = let z : _≡_ {A = ℕ} 0 1 = cc in absurd (omega arith)
 
--- two tests, and then the others
-then-others : {A B C D : Type 0} (r : Result A) (s : Result B) (o : Result C) (k : C → Result D)
-    → andThen (andThen r λ u. s) (λ v. andThen o k) ≡ andThen (andThen r λ u. andThen s λ v. o) k
+-- a type and two tests, and then the others
+then-others : {A B C D E : Type 0} (q : Result A) (r : Result B) (s : Result C) (o : Result D) (k : D → Result E)
+    → andThen (andThen q λ t. andThen r λ u. s) (λ v. andThen o k) ≡ andThen (andThen q λ t. andThen r λ u. andThen s λ v. o) k
 unfolding andThen
-then-others (fine a) (fine b) o k = refl
-then-others (fine a) (refuse c p) o k = refl
-then-others (refuse c p) s o k = refl
+then-others (fine a) (fine b) (fine c) o k = refl
+then-others (fine a) (fine b) (refuse c p) o k = refl
+then-others (fine a) (refuse c p) s o k = refl
+then-others (refuse c p) r s o k = refl
 
 pub in-values : (ps : List Arg) (P : Word → Type 0) → inArgs ps P → inArgsP (values ps) P
 unfolding inArgs inArg inArgsP inArgP
 in-values [] P h = tt
 in-values (arg x t ∷ ps) P h = (h .0, in-values ps P (h .1))
-
--- a node that only has to pass a test
-pub own-pass : (g : Run) {P : Unit {0} → Type 0} (n p : ℕ) (b : Bool) → (b ≡ true → P tt) → Own g P n p (pick b (λ _. 65537) λ _. 65536) (passes p b)
-unfolding passes judged only
-own-pass g n p true f = own-fine refl (λ e. f refl)
-own-pass g n p false f = own-bad said-type
 
 -- a parameter: its own test, and that its name is none of those before it
 own-single : (g : Run) {P : Unit {0} → Type 0} (n p : ℕ) (d b : Bool) → (d ≡ true → P tt)
@@ -111,6 +108,7 @@ module _ (g : Run) where
   type-row-kept (bool p) = refl
   type-row-kept (int p) = refl
   type-row-kept (arrow p ts t) = refl
+  type-row-kept (vec p t) = refl
 
   kept : (k n row : ℕ) → kindAt g.tree n ≡ k → rowOf k ≡ 0 → rowAfter g.tree n row ≡ row
   unfolding rowAfter
@@ -123,13 +121,15 @@ module _ (g : Run) where
     type-later (arrow p ts t) {n} {row = row} h =
         types-later ts t (h .kids) (λ j ro ro′ w e q. end-row (seat g q .rest) ∙ type-later t (seat g q)) ∙ kept 17 n row (h .kind)
         (type-row-kept (arrow p ts t))
+    type-later (vec p t) {n} {row = row} h =
+        let d = seat g (h .kids) in end-row (d .rest) ∙ (type-later t d ∙ kept 26 n row (h .kind) (type-row-kept (vec p t)))
 
     types-later : (ts : TypeTrees) (t : TypeTree) {n m row row′ v : ℕ} → Sit g (types-row ts (type-row t end)) n m row row′ v
         → ((j ro ro′ w e : ℕ) → Sit g (type-row t end) j e ro ro′ w → ro′ ≡ ro) → row′ ≡ row
     types-later (one-type y) t q f = let h = seat g q in f _ _ _ _ _ (h .rest) ∙ type-later y h
     types-later (more-types y ts) t q f = let h = seat g q in types-later ts t (h .rest) f ∙ type-later y h
 
-  param-later : (a : ArgP) {n m row row′ v : ℕ} {s : Nodes} (h : Seat g (kind-param a) (place-param a) (type-row (type-param a) end) s n m row row′ v)
+  param-later : (a : ArgP) {n m row row′ v : ℕ} {s : Nodes} (h : Seat g (kind-param a) (place-param a) (type-row (param-type a) end) s n m row row′ v)
       → h .later ≡ row
   unfolding rowOf
   param-later (val-arg x t) {n} {row = row} h = let d = seat g (h .kids) in end-row (d .rest) ∙ (type-later t d ∙ kept 13 n row (h .kind) refl)
@@ -146,9 +146,9 @@ module _ (g : Run) where
   param-named (var-arg (at p x) t) s = sym (name-stands s)
 
   -- a parameter's node
-  module _ (a : ArgP) {n m row row′ v : ℕ} {s : Nodes} (h : Seat g (kind-param a) (place-param a) (type-row (type-param a) end) s n m row row′ v)
+  module _ (a : ArgP) {n m row row′ v : ℕ} {s : Nodes} (h : Seat g (kind-param a) (place-param a) (type-row (param-type a) end) s n m row row′ v)
       (l : m ≤ g.count) where
-    inner-type : Seat g (kind-type (type-param a)) (place-type (type-param a)) (kids-type (type-param a)) end (suc n) (h .mid) (rowAfter g.tree n row)
+    inner-type : Seat g (kind-type (param-type a)) (place-type (param-type a)) (kids-type (param-type a)) end (suc n) (h .mid) (rowAfter g.tree n row)
         (h .later)
         (innerAt g.tree g.scopes n)
     inner-type = seat g (h .kids)
@@ -156,18 +156,18 @@ module _ (g : Run) where
     inner-in : h .mid ≤ g.count
     inner-in = omega (arith, behind g h)
 
-    param-type : Written g (suc n) (typeOf (type-param a))
-    param-type = type-written g (type-param a) inner-type inner-in (omega arith)
+    spelled : Written g (suc n) (typeOf (param-type a))
+    spelled = type-written g (param-type a) inner-type inner-in (omega arith)
 
     type-note : eqb (suc n % 65536) 0 ≡ false
     type-note = ne-eqb (suc n % 65536) 0 (λ e. omega (arith, here-low g inner-type inner-in))
 
   param-takes : (a : ArgP) (M : List ℕ) (lo : ℕ) {n m row row′ v : ℕ} {s : Nodes}
-      → Seat g (kind-param a) (place-param a) (type-row (type-param a) end) s n m row row′ v → m ≤ g.count
+      → Seat g (kind-param a) (place-param a) (type-row (param-type a) end) s n m row row′ v → m ≤ g.count
       → Takes g.tree M lo n (par a)
   unfolding paramType
-  param-takes (val-arg x t) M lo h l = takes-value {τ = typeOf t} (rw (h .kind)) (rw (h .kind, h .child) (param-type (val-arg x t) h l M lo))
-  param-takes (var-arg x t) M lo h l = takes-ref {τ = typeOf t} (h .kind) (rw (h .child) (param-type (var-arg x t) h l M lo))
+  param-takes (val-arg x t) M lo h l = takes-value {τ = typeOf t} (rw (h .kind)) (rw (h .kind, h .child) (spelled (val-arg x t) h l M lo))
+  param-takes (var-arg x t) M lo h l = takes-ref {τ = typeOf t} (h .kind) (rw (h .child) (spelled (var-arg x t) h l M lo))
 
   pub params-take : (ps : List ArgP) (M : List ℕ) (lo : ℕ) (L : ℕ → Type 0) {k p n hi row row′ v : ℕ} {c : Nodes}
       → Sit g (params-row ps (node k p c end)) n hi row row′ v
@@ -177,14 +177,14 @@ module _ (g : Run) where
       let h = seat g q in
       part-more g M lo L h (first-params ps k p c end (h .mid)) (param-takes a M lo h l) (params-take ps M lo L (h .rest) l (omega (arith, below g h)) f)
 
-  param-binder : (a : ArgP) {n m row row′ v : ℕ} {s : Nodes} → Seat g (kind-param a) (place-param a) (type-row (type-param a) end) s n m row row′ v
+  param-binder : (a : ArgP) {n m row row′ v : ℕ} {s : Nodes} → Seat g (kind-param a) (place-param a) (type-row (param-type a) end) s n m row row′ v
       → m ≤ g.count
       → declarable a ≡ true → Binder g n (plain (par a))
   unfolding readType refType isProc
   param-binder (val-arg x t) {n} h l d =
-      binds-value {τ = typeOf t} (suc n) (rw (h .kind, h .child)) (type-note (val-arg x t) h l) (param-type (val-arg x t) h l) (rw (h .kind)) (rw (h .kind))
+      binds-value {τ = typeOf t} (suc n) (rw (h .kind, h .child)) (type-note (val-arg x t) h l) (spelled (val-arg x t) h l) (rw (h .kind)) (rw (h .kind))
   param-binder (var-arg (at p x) t) {n} h l d =
-      binds-ref {τ = typeOf t} (suc n) (rw (h .kind, h .child)) (type-note (var-arg (at p x) t) h l) (param-type (var-arg (at p x) t) h l)
+      binds-ref {τ = typeOf t} (suc n) (rw (h .kind, h .child)) (type-note (var-arg (at p x) t) h l) (spelled (var-arg (at p x) t) h l)
       (rw (h .kind, h .child))
       (base-true (typeOf t) (both-true (is-free (meaning x)) (is-base (typeOf t)) d .1)) (rw (h .kind))
 
@@ -192,17 +192,18 @@ module _ (g : Run) where
   before-in h l = omega (arith, here-in g h l)
 
   param-one : (a : ArgP) {n m row row′ v role : ℕ} {s : Nodes} {xs : List Name} {Γ : Ctx}
-      (h : Seat g (kind-param a) (place-param a) (type-row (type-param a) end) s n m row row′ v)
+      (h : Seat g (kind-param a) (place-param a) (type-row (param-type a) end) s n m row row′ v)
       → m ≤ g.count → Scope g n v role Γ → Listed g n role xs → inArgP a (Stands g.text)
-      → One g (λ u. declarable a ≡ true) n (h .mid) (andThen (passes (place-param a) (declarable a)) λ u. single (place-param a) (among (param-name a) xs))
+      → One g (λ u. declarable a ≡ true) n (h .mid)
+      (andThen (judge-type (param-type a)) λ t. andThen (passes (place-param a) (declarable a)) λ u. single (place-param a) (among (param-name a) xs))
   unfolding ownBy paramBy singleRule inArgP
   param-one (val-arg (at p x) t) {n} {xs = xs} h l sc i s =
       let d = seat g (h .kids) in
-      node-one g h l (kids-past g d (omega arith) (type-one g t d (omega (arith, behind g h))) (kids-done g (d .rest) (λ M a.
+      node-one g h l (kids-then g d (omega arith) _ (type-one g t d (omega (arith, behind g h))) (λ w r f. kids-done g (d .rest) (λ M a.
       rw (h .place, free-rule p, named-is g h (param-binds-name (val-arg (at p x) t)) (before-in h l) sc i, ← name-stands s) (own-single g n p (is-free (meaning x)) (among x xs) (λ e. e)))))
   param-one (var-arg (at p x) t) {n} {xs = xs} h l sc i s =
       let d = seat g (h .kids) in
-      node-one g h l (kids-past g d (omega arith) (type-one g t d (omega (arith, behind g h))) (kids-done g (d .rest) (λ M a.
+      node-one g h l (kids-then g d (omega arith) _ (type-one g t d (omega (arith, behind g h))) (λ w r f. kids-done g (d .rest) (λ M a.
       rw (h .place, h .child, cell-rule t p (suc n) (d .kind), named-is g h (param-binds-name (var-arg (at p x) t)) (before-in h l) sc i, ← name-stands s)
       (own-single g n p (andb (is-free (meaning x)) (is-base (typeOf t))) (among x xs) (λ e. e)))))
 
@@ -220,7 +221,7 @@ module _ (g : Run) where
       let h = seat g q in
       let w = param-named a (i .0) in
       subst (λ o. Kids g K (params-row (a ∷ ps) (node k₀ p₀ c₀ s₀)) n hi o)
-      (then-others (passes (place-param a) (declarable a)) (single (place-param a) (among (param-name a) xs)) (judge-after (param-name a ∷ xs) ps) k)
+      (then-others (judge-type (param-type a)) (passes (place-param a) (declarable a)) (single (place-param a) (among (param-name a) xs)) (judge-after (param-name a ∷ xs) ps) k)
       (kids-then g h z (λ u. andThen (judge-after (param-name a ∷ xs) ps) k) (param-one a h l sc li (i .0)) (λ u e d.
       params-after (param-name a ∷ xs) ps k₀ p₀ c₀ s₀ fs ((param-name a, plain (par a)) ∷ Δ) k (h .rest) l (omega (arith, below g h))
       (subst (λ ro. Front g ro fs) (sym (param-later a h)) r)

@@ -10,7 +10,7 @@ use Rattle.language.specs.Places.{place-def, place-stat}
 use Rattle.language.specs.Names.{meaning, head-operator}
 use Rattle.language.specs.Words.{nameAt}
 use Rattle.language.specs.Types.{typeOf, value, plain, procedure, Entity, Ctx, extend, values, pars, declared, fun-type}
-use Rattle.language.specs.Order.{after-def, nodes-params, nodes-expr, nodes-args, nodes-block, nodes-cmds, nodes-def, nodes-stat}
+use Rattle.language.specs.Order.{after-def, nodes-params, nodes-expr, nodes-args, nodes-block, nodes-cmds, nodes-def, nodes-stat, nodes-type}
 use Rattle.language.proofs.reading.Standing.{Stands, inCmds, inDef, inStat, inBlock}
 use Rattle.language.proofs.reading.Payload.{name-stands}
 use Rattle.language.proofs.typing.Judge.{is-free, is-base, judge-block, judge-cmds, judge-def, judge-stat}
@@ -85,13 +85,13 @@ module _ (g : Run) where
         → Scope g n v 0 Γ → inDef d (Stands g.text) → AllNodes Comparable (nodes-def Γ d) → One g (λ u. Looks g n (after-def d Γ)) n (h .mid) (judge-def Γ d)
     def-one (const p (at i x) t e) {Γ = Γ} h l z sc s q =
         let w = name-stands (s .0) in
-        one-map g (λ u r f. def-looks g h l sc refl w (const-binder g t h l refl)) (const-one g p i x t e h l sc w (s .1) (all-front (nodes-expr Γ e) _ q))
+        one-map g (λ u r f. def-looks g h l sc refl w (const-binder g t h l refl)) (const-one g p i x t e h l sc w (s .1) (all-front (nodes-expr Γ e) _ (all-rest (nodes-type t) q)))
     def-one (fun p (at i x) t ps e) {n} {row = row} {Γ = Γ} h l z sc s q =
         let w = name-stands (s .0) in
         let Δ = extend (declared (values ps)) Γ in
         one-map g (λ u r f. def-looks g h l sc refl w (fun-binder g t ps e h l z refl refl refl refl refl refl))
         (fun-one g 3 p i x t ps e [] Γ h l (λ M. refl) (scope-inner g h {role = 1} refl refl (scope-up g (omega arith) sc)) (no-rec n row (h .kind) refl) w
-        (in-values ps (Stands g.text) (s .1)) (s .2) (all-front (nodes-expr Δ e) _ (all-rest (nodes-params (values ps)) q)))
+        (in-values ps (Stands g.text) (s .1)) (s .2) (all-front (nodes-expr Δ e) _ (all-rest (nodes-params (values ps)) (all-rest (nodes-type t) q))))
     def-one (fun-rec p (at i x) t ps e) {n} {row = row} {Γ = Γ} h l z sc s q =
         let w = name-stands (s .0) in
         let d : Looks g n ((x, plain (value (fun-type ps t))) ∷ Γ) = def-looks g h l sc refl w (fun-binder g t ps e h l z refl refl refl refl refl refl) in
@@ -99,7 +99,7 @@ module _ (g : Run) where
         one-map g (λ u r f. d)
         (fun-one g 4 p i x t ps e ((x, plain (value (fun-type ps t))) ∷ []) Γ h l (λ M. refl) (scope-rec g h refl refl (here-low g h l) d)
         (is-rec n row (h .kind) refl z (ap (nameAt g.text) (name-place g h) ∙ sym w)) w
-        (in-values ps (Stands g.text) (s .1)) (s .2) (all-front (nodes-expr Δ e) _ (all-rest (nodes-params (values ps)) q)))
+        (in-values ps (Stands g.text) (s .1)) (s .2) (all-front (nodes-expr Δ e) _ (all-rest (nodes-params (values ps)) (all-rest (nodes-type t) q))))
     def-one (var p (at i x) t) h l z sc s q =
         let w = name-stands s in
         one-map g (λ u r f. def-looks g h l sc refl w (var-binder g t h l refl

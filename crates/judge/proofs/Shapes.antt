@@ -2,10 +2,10 @@
 use Prim.Native.Nat.{ℕ}
 use mathlib.Core.Path.{_≡_, refl}
 use mathlib.Core.List.{List, [], _∷_}
-use Rattle.language.specs.Syntax.{Ident, TypeTree, bool, int, arrow, TypeTrees, one-type, more-types, Arg, arg, ArgP, val-arg, var-arg, Expr, num, name, if-expr, and, or, app, abs, Exprs, one-expr, more-exprs, ExprP, val, adr, Cmds, last, def-then, stat-then, Def, const, fun, fun-rec, var, proc, proc-rec, Stat, echo, set, if-stat, while, call, Block, block}
+use Rattle.language.specs.Syntax.{Ident, TypeTree, bool, int, arrow, vec, TypeTrees, one-type, more-types, Arg, arg, ArgP, val-arg, var-arg, Expr, num, name, if-expr, and, or, app, abs, alloc, nth-expr, len, vset, Exprs, one-expr, more-exprs, ExprP, val, adr, Cmds, last, def-then, stat-then, Def, const, fun, fun-rec, var, proc, proc-rec, Stat, echo, set, if-stat, while, call, Block, block}
 use Rattle.language.specs.Places.{place-ident, place-expr, place-arg, place-param, place-def, place-stat}
 use Rattle.language.specs.Table.{Forest, none, leaf, fork, shapeType, shapeTypes, shapeArg, shapeArgs, shapeArgP, shapeArgsP, shapeExpr, shapeExprs, shapeExprP, shapeExprsP, shapeCmds, shapeDef, shapeStat, shapeBlock}
-use Rattle.language.specs.Types.{values}
+use Rattle.language.specs.Types.{values, param-type}
 
 -- a row of siblings, each with its children
 pub data Nodes : Type 0 where
@@ -26,17 +26,20 @@ abbrev pub kind-type : TypeTree → ℕ
 kind-type (bool p) = 15
 kind-type (int p) = 16
 kind-type (arrow p ts t) = 17
+kind-type (vec p t) = 26
 
 abbrev pub place-type : TypeTree → ℕ
 place-type (bool p) = p
 place-type (int p) = p
 place-type (arrow p ts t) = p
+place-type (vec p t) = p
 
 abbrev mutual
   pub kids-type : TypeTree → Nodes
   kids-type (bool p) = end
   kids-type (int p) = end
   kids-type (arrow p ts t) = types-row ts (node (kind-type t) (place-type t) (kids-type t) end)
+  kids-type (vec p t) = node (kind-type t) (place-type t) (kids-type t) end
 
   pub types-row : TypeTrees → Nodes → Nodes
   types-row (one-type t) s = node (kind-type t) (place-type t) (kids-type t) s
@@ -50,12 +53,8 @@ abbrev pub kind-param : ArgP → ℕ
 kind-param (val-arg x t) = 13
 kind-param (var-arg x t) = 14
 
-abbrev pub type-param : ArgP → TypeTree
-type-param (val-arg x t) = t
-type-param (var-arg x t) = t
-
 abbrev pub param-row : ArgP → Nodes → Nodes
-param-row a s = node (kind-param a) (place-param a) (type-row (type-param a) end) s
+param-row a s = node (kind-param a) (place-param a) (type-row (param-type a) end) s
 
 abbrev pub params-row : List ArgP → Nodes → Nodes
 params-row [] s = s
@@ -70,6 +69,10 @@ kind-expr (and p a b) = 21
 kind-expr (or p a b) = 22
 kind-expr (app p f es) = 23
 kind-expr (abs p ps e) = 24
+kind-expr (alloc p t e) = 27
+kind-expr (nth-expr p a b) = 28
+kind-expr (len p a) = 29
+kind-expr (vset p a b c) = 30
 
 abbrev mutual
   pub kids-expr : Expr → Nodes
@@ -81,6 +84,11 @@ abbrev mutual
   kids-expr (or p a b) = node (kind-expr a) (place-expr a) (kids-expr a) (node (kind-expr b) (place-expr b) (kids-expr b) end)
   kids-expr (app p f es) = node (kind-expr f) (place-expr f) (kids-expr f) (exprs-row es end)
   kids-expr (abs p ps e) = params-row (values ps) (node (kind-expr e) (place-expr e) (kids-expr e) end)
+  kids-expr (alloc p t e) = type-row t (node (kind-expr e) (place-expr e) (kids-expr e) end)
+  kids-expr (nth-expr p a b) = node (kind-expr a) (place-expr a) (kids-expr a) (node (kind-expr b) (place-expr b) (kids-expr b) end)
+  kids-expr (len p a) = node (kind-expr a) (place-expr a) (kids-expr a) end
+  kids-expr (vset p a b c) =
+      node (kind-expr a) (place-expr a) (kids-expr a) (node (kind-expr b) (place-expr b) (kids-expr b) (node (kind-expr c) (place-expr c) (kids-expr c) end))
 
   pub exprs-row : Exprs → Nodes → Nodes
   exprs-row (one-expr e) s = node (kind-expr e) (place-expr e) (kids-expr e) s
@@ -165,6 +173,7 @@ mutual
   shape-type (bool p) s = refl
   shape-type (int p) s = refl
   shape-type (arrow p ts t) s = rw (shape-types ts (shapeType t none), shape-type t none)
+  shape-type (vec p t) s = rw (shape-type t none)
 
   shape-types : (ts : TypeTrees) (s : Forest) → nodesOf (shapeTypes ts s) ≡ types-row ts (nodesOf s)
   shape-types (one-type t) s = shape-type t s
@@ -192,6 +201,10 @@ mutual
   shape-expr (or p a b) s = rw (shape-expr a (shapeExpr b none), shape-expr b none)
   shape-expr (app p f es) s = rw (shape-expr f (shapeExprs es none), shape-exprs es none)
   shape-expr (abs p ps e) s = rw (shape-args ps (shapeExpr e none), shape-expr e none)
+  shape-expr (alloc p t e) s = rw (shape-type t (shapeExpr e none), shape-expr e none)
+  shape-expr (nth-expr p a b) s = rw (shape-expr a (shapeExpr b none), shape-expr b none)
+  shape-expr (len p a) s = rw (shape-expr a none)
+  shape-expr (vset p a b c) s = rw (shape-expr a (shapeExpr b (shapeExpr c none)), shape-expr b (shapeExpr c none), shape-expr c none)
 
   shape-exprs : (es : Exprs) (s : Forest) → nodesOf (shapeExprs es s) ≡ exprs-row es (nodesOf s)
   shape-exprs (one-expr e) s = shape-expr e s

@@ -3,17 +3,18 @@ use Prim.Native.Nat.{ℕ, zero, suc, _+_, _-_, _%_, _<_, _≤_}
 use mathlib.Core.Path.{_≡_, refl, ap, sym, _∙_, subst}
 use mathlib.Core.Bool.{Bool, true, false}
 use mathlib.Core.List.{List, [], _∷_}
+use mathlib.Core.Logic.{_⊎_, inl, inr, ⊎-elim}
 use native.Mathlib.Omega.{arith}
 use lib.Dec.{eqb, ltb}
 use lib.ListN.{length, getD}
 use borrow.Author.Tests.{ne-eqb, eqb-true, eqb-false, ltb-true, ltb-false, lt-ltb, le-ltb}
 use Rattle.language.specs.Claims.{TyFits, TysFit}
-use Rattle.language.specs.Types.{boolean, integer, Ty, base, fn, Tys, tnil, tcons, BOOL, INT, Par, value, ref}
+use Rattle.language.specs.Types.{boolean, integer, Ty, base, fn, Tys, tnil, tcons, BOOL, INT, Par, value, ref, vec-of}
 use Rattle.language.specs.Typing.{IsBase}
 use Rattle.language.proofs.typing.Judge.{andb, same-type, same-types, same-par, same-pars}
 use Rattle.judge.specs.Scopes.{pick, kindAt, childAt, nextAt}
 use Rattle.judge.proofs.Noting.{Agree}
-use Rattle.judge.specs.Types.{noteKind, isFun, partsOf, paramType, resultType, sameParts, same, argFits, fitsFrom}
+use Rattle.judge.specs.Types.{noteKind, isFun, partsOf, paramType, resultType, sameParts, same, argFits, fitsFrom, isVec}
 
 -- the kinds that spell a function's type
 fun-low : (k : ℕ) → isFun k ≡ true → k < 25
@@ -35,8 +36,36 @@ no-fun k h = by-test (isFun k) refl
     by-test true e = absurd (omega (arith, fun-low k e))
     by-test false e = refl
 
-apart : (k m : ℕ) → isFun k ≡ false → isFun m ≡ true → eqb k m ≡ false
-apart k m h g = ne-eqb k m (λ e. let z : _≡_ {A = ℕ} 0 1 = cc in omega arith)
+-- and a block's
+vec-low : (k : ℕ) → isVec k ≡ true → (k ≡ 26) ⊎ (k ≡ 27)
+unfolding isVec
+vec-low k = by-tests (eqb k 26) refl (eqb k 27) refl
+  where
+    by-tests : (a : Bool) → eqb k 26 ≡ a → (b : Bool) → eqb k 27 ≡ b → pick a (λ _. true) (λ _. b) ≡ true → (k ≡ 26) ⊎ (k ≡ 27)
+    by-tests true e b f z = inl (eqb-true k 26 e)
+    by-tests false e true f z = inr (eqb-true k 27 f)
+    by-tests false e false f z = let o : _≡_ {A = ℕ} 0 1 = cc in absurd (omega arith)
+
+no-vec : (k : ℕ) → 28 ≤ k → isVec k ≡ false
+no-vec k h = by-test (isVec k) refl
+  where
+    by-test : (b : Bool) → isVec k ≡ b → b ≡ false
+    by-test true e = ⊎-elim (λ i. absurd (omega arith)) (λ i. absurd (omega arith)) (vec-low k e)
+    by-test false e = refl
+
+pub vec-no-fun : (k : ℕ) → isVec k ≡ true → isFun k ≡ false
+unfolding isFun
+vec-no-fun k e = ⊎-elim (λ i. rw i) (λ i. rw i) (vec-low k e)
+
+pub fun-no-vec : (k : ℕ) → isFun k ≡ true → isVec k ≡ false
+fun-no-vec k e = by-test (isVec k) refl
+  where
+    by-test : (b : Bool) → isVec k ≡ b → b ≡ false
+    by-test true f = let w = vec-no-fun k f in let o : _≡_ {A = ℕ} 0 1 = cc in absurd (omega arith)
+    by-test false f = refl
+
+apart : (f : ℕ → Bool) (k m : ℕ) → f k ≡ false → f m ≡ true → eqb k m ≡ false
+apart f k m h g = ne-eqb k m (λ e. let z : _≡_ {A = ℕ} 0 1 = cc in omega arith)
 
 pub pos-not : (y : ℕ) → 0 < y → y ≡ 0 → ⊥
 pos-not y h e = omega arith
@@ -60,6 +89,7 @@ module _ (t M : List ℕ) (lo : ℕ) where
       s-bool : {r : ℕ} → noteKind t r ≡ 15 → Spells r BOOL
       s-int : {r : ℕ} → noteKind t r ≡ 16 → Spells r INT
       s-fn : {r : ℕ} {ts : Tys} {τ : Ty} → isFun (noteKind t r) ≡ true → Parts r (partsOf t r) ts τ → Spells r (fn ts τ)
+      s-vec : {r : ℕ} {τ : Ty} → isVec (noteKind t r) ≡ true → Spells (childAt t r) τ → Spells r (vec-of τ)
 
     pub data Parts : ℕ → ℕ → Tys → Ty → Type 0 where
       p-last : {r y : ℕ} {τ : Ty} → 0 < y → y < length t → nextAt t y ≡ 0 → (kindAt t r ≡ 24 → lo ≤ y) → Spells (resultType t M r y) τ → Parts r y tnil τ
@@ -67,26 +97,27 @@ module _ (t M : List ℕ) (lo : ℕ) where
           → Parts r y (tcons σ ts) τ
 
   -- what spells a type is of a low kind
-  low-kind : (r : ℕ) (τ : Ty) → Spells r τ → noteKind t r < 25
+  low-kind : (r : ℕ) (τ : Ty) → Spells r τ → noteKind t r < 28
   low-kind r τ (s-bool e) = omega arith
   low-kind r τ (s-int e) = omega arith
-  low-kind r τ (s-fn e p) = fun-low (noteKind t r) e
+  low-kind r τ (s-fn e p) = let w = fun-low (noteKind t r) e in omega arith
+  low-kind r τ (s-vec e p) = ⊎-elim (λ i. omega arith) (λ i. omega arith) (vec-low (noteKind t r) e)
 
   above : (r : ℕ) → 65536 ≤ r → noteKind t r ≡ r - 65536
   unfolding noteKind
   above r h = rw (le-ltb r 65536 h)
 
-  pub spells-low : (r : ℕ) (τ : Ty) → Spells r τ → r < 65561
+  pub spells-low : (r : ℕ) (τ : Ty) → Spells r τ → r < 65564
   spells-low r τ s = by-test (ltb r 65536) refl
     where
-      by-test : (b : Bool) → ltb r 65536 ≡ b → r < 65561
+      by-test : (b : Bool) → ltb r 65536 ≡ b → r < 65564
       by-test true e = omega (arith, ltb-true r 65536 e)
       by-test false e = let h = ltb-false r 65536 e in omega (arith, above r h, low-kind r τ s)
 
-  same-base : (l r q : ℕ) → isFun (noteKind t r) ≡ false → same l t M r q ≡ eqb (noteKind t r) (noteKind t q)
+  same-base : (l r q : ℕ) → isFun (noteKind t r) ≡ false → isVec (noteKind t r) ≡ false → same l t M r q ≡ eqb (noteKind t r) (noteKind t q)
   unfolding same
-  same-base zero r q h = rw h
-  same-base (suc l) r q h = rw h
+  same-base zero r q h k = rw (h, k)
+  same-base (suc l) r q h k = rw (h, k)
 
   -- the comparison with l levels is right
   abbrev Right : ℕ → Type 0
@@ -120,53 +151,67 @@ module _ (t M : List ℕ) (lo : ℕ) where
       both false b c = refl
 
   base-right : (l r q : ℕ) (τ σ : Ty) → IsBase τ → Spells r τ → Spells q σ → same l t M r q ≡ same-type τ σ
-  unfolding same-type isFun
-  base-right l r q (base boolean) (base boolean) b (s-bool e) (s-bool g) = same-base l r q (rw e) ∙ rw (e, g)
-  base-right l r q (base boolean) (base integer) b (s-bool e) (s-int g) = same-base l r q (rw e) ∙ rw (e, g)
-  base-right l r q (base boolean) (fn us σ) b (s-bool e) (s-fn g v) = same-base l r q (rw e) ∙ rw e (apart 15 (noteKind t q) refl g)
-  base-right l r q (base integer) (base boolean) b (s-int e) (s-bool g) = same-base l r q (rw e) ∙ rw (e, g)
-  base-right l r q (base integer) (base integer) b (s-int e) (s-int g) = same-base l r q (rw e) ∙ rw (e, g)
-  base-right l r q (base integer) (fn us σ) b (s-int e) (s-fn g v) = same-base l r q (rw e) ∙ rw e (apart 16 (noteKind t q) refl g)
+  unfolding same-type isFun isVec
+  base-right l r q (base boolean) (base boolean) b (s-bool e) (s-bool g) = same-base l r q (rw e) (rw e) ∙ rw (e, g)
+  base-right l r q (base boolean) (base integer) b (s-bool e) (s-int g) = same-base l r q (rw e) (rw e) ∙ rw (e, g)
+  base-right l r q (base boolean) (fn us σ) b (s-bool e) (s-fn g v) = same-base l r q (rw e) (rw e) ∙ rw e (apart isFun 15 (noteKind t q) refl g)
+  base-right l r q (base boolean) (vec-of σ) b (s-bool e) (s-vec g v) = same-base l r q (rw e) (rw e) ∙ rw e (apart isVec 15 (noteKind t q) refl g)
+  base-right l r q (base integer) (base boolean) b (s-int e) (s-bool g) = same-base l r q (rw e) (rw e) ∙ rw (e, g)
+  base-right l r q (base integer) (base integer) b (s-int e) (s-int g) = same-base l r q (rw e) (rw e) ∙ rw (e, g)
+  base-right l r q (base integer) (fn us σ) b (s-int e) (s-fn g v) = same-base l r q (rw e) (rw e) ∙ rw e (apart isFun 16 (noteKind t q) refl g)
+  base-right l r q (base integer) (vec-of σ) b (s-int e) (s-vec g v) = same-base l r q (rw e) (rw e) ∙ rw e (apart isVec 16 (noteKind t q) refl g)
   base-right l r q (fn ts τ) σ b s u = absurd b
+  base-right l r q (vec-of τ) σ b s u = absurd b
 
   -- Two notes are the same if and only if the types that they spell are, with as many levels as the first has.
   pub same-right : (l : ℕ) → Right l
-  unfolding same same-type isFun
+  unfolding same same-type isFun isVec
   same-right zero r q (base b) σ f s u = base-right zero r q (base b) σ tt s u
   same-right zero r q (fn ts τ) σ f s u = absurd f
+  same-right zero r q (vec-of τ) σ f s u = absurd f
   same-right (suc l) r q (base b) σ f s u = base-right (suc l) r q (base b) σ tt s u
   same-right (suc l) r q (fn ts τ) (base boolean) f (s-fn e w) (s-bool g) = rw (e, g)
   same-right (suc l) r q (fn ts τ) (base integer) f (s-fn e w) (s-int g) = rw (e, g)
   same-right (suc l) r q (fn ts τ) (fn us σ) f (s-fn e w) (s-fn g v) =
       rw (e, g) (parts-right l (same-right l) (length t) r q (partsOf t r) (partsOf t q) ts us τ σ (f .0) (f .1) w v (omega arith))
+  same-right (suc l) r q (fn ts τ) (vec-of σ) f (s-fn e w) (s-vec g v) = rw (e, vec-no-fun (noteKind t q) g)
+  same-right (suc l) r q (vec-of τ) (base boolean) f (s-vec e w) (s-bool g) = rw (vec-no-fun (noteKind t r) e, e, g)
+  same-right (suc l) r q (vec-of τ) (base integer) f (s-vec e w) (s-int g) = rw (vec-no-fun (noteKind t r) e, e, g)
+  same-right (suc l) r q (vec-of τ) (fn us σ) f (s-vec e w) (s-fn g v) = rw (vec-no-fun (noteKind t r) e, e, fun-no-vec (noteKind t q) g)
+  same-right (suc l) r q (vec-of τ) (vec-of σ) f (s-vec e w) (s-vec g v) =
+      rw (vec-no-fun (noteKind t r) e, e, g) (same-right l (childAt t r) (childAt t q) τ σ f w v)
 
   -- bool and int by their kinds
   pub kind-bool : (r : ℕ) (τ : Ty) → Spells r τ → eqb (noteKind t r) 15 ≡ same-type τ BOOL
-  unfolding same-type isFun
+  unfolding same-type isFun isVec
   kind-bool r (base boolean) (s-bool e) = rw e
   kind-bool r (base integer) (s-int e) = rw e
   kind-bool r (fn ts τ) (s-fn e p) = ne-eqb (noteKind t r) 15 (λ h. let w : isFun 15 ≡ true = rw h at e in let z : _≡_ {A = ℕ} 0 1 = cc in omega arith)
+  kind-bool r (vec-of τ) (s-vec e p) = ne-eqb (noteKind t r) 15 (λ h. let w : isVec 15 ≡ true = rw h at e in let z : _≡_ {A = ℕ} 0 1 = cc in omega arith)
 
   pub kind-int : (r : ℕ) (τ : Ty) → Spells r τ → eqb (noteKind t r) 16 ≡ same-type τ INT
-  unfolding same-type isFun
+  unfolding same-type isFun isVec
   kind-int r (base boolean) (s-bool e) = rw e
   kind-int r (base integer) (s-int e) = rw e
   kind-int r (fn ts τ) (s-fn e p) = ne-eqb (noteKind t r) 16 (λ h. let w : isFun 16 ≡ true = rw h at e in let z : _≡_ {A = ℕ} 0 1 = cc in omega arith)
+  kind-int r (vec-of τ) (s-vec e p) = ne-eqb (noteKind t r) 16 (λ h. let w : isVec 16 ≡ true = rw h at e in let z : _≡_ {A = ℕ} 0 1 = cc in omega arith)
 
   -- a note that spells a type is no refusal and no operator
   pub spells-fine : kindAt t 0 ≡ 1 → (r : ℕ) (τ : Ty) → Spells r τ → eqb (r % 65536) 0 ≡ false
-  unfolding noteKind isFun
+  unfolding noteKind isFun isVec
   spells-fine k r τ s = ne-eqb (r % 65536) 0 (λ e. by-test (eqb r 0) refl e)
     where
       not-root : (τ : Ty) → Spells 0 τ → ⊥
       not-root (base boolean) (s-bool e) = let z : _≡_ {A = ℕ} 1 15 = sym k ∙ e in omega arith
       not-root (base integer) (s-int e) = let z : _≡_ {A = ℕ} 1 16 = sym k ∙ e in omega arith
       not-root (fn ts σ) (s-fn e p) = let w : isFun 1 ≡ true = rw k at e in let z : _≡_ {A = ℕ} 0 1 = cc in omega arith
+      not-root (vec-of σ) (s-vec e p) = let w : isVec 1 ≡ true = rw k at e in let z : _≡_ {A = ℕ} 0 1 = cc in omega arith
 
       not-edge : (τ : Ty) → Spells 65536 τ → ⊥
       not-edge (base boolean) (s-bool e) = omega arith
       not-edge (base integer) (s-int e) = omega arith
       not-edge (fn ts σ) (s-fn e p) = let z : _≡_ {A = ℕ} 0 1 = cc in omega arith
+      not-edge (vec-of σ) (s-vec e p) = let z : _≡_ {A = ℕ} 0 1 = cc in omega arith
 
       by-test : (b : Bool) → eqb r 0 ≡ b → r % 65536 ≡ 0 → ⊥
       by-test true f e = not-root τ (subst (λ r. Spells r τ) (eqb-true r 0 f) s)
@@ -176,13 +221,14 @@ module _ (t M : List ℕ) (lo : ℕ) where
           not-edge τ (subst (λ r. Spells r τ) (omega arith) s)
 
   pub no-operator : (r : ℕ) (τ : Ty) → Spells r τ → eqb r 65555 ≡ false
-  unfolding noteKind isFun
+  unfolding noteKind isFun isVec
   no-operator r τ s = ne-eqb r 65555 (λ e. not-head τ (subst (λ r. Spells r τ) e s))
     where
       not-head : (τ : Ty) → Spells 65555 τ → ⊥
       not-head (base boolean) (s-bool e) = omega arith
       not-head (base integer) (s-int e) = omega arith
       not-head (fn ts σ) (s-fn e p) = let z : _≡_ {A = ℕ} 0 1 = cc in omega arith
+      not-head (vec-of σ) (s-vec e p) = let z : _≡_ {A = ℕ} 0 1 = cc in omega arith
 
   -- what the parameter y takes
   pub data Takes (y : ℕ) : Par → Type 0 where
@@ -222,13 +268,14 @@ module _ (t M : List ℕ) (lo : ℕ) where
   base-fits : (τ : Ty) (l : ℕ) → IsBase τ → TyFits τ l
   base-fits (base b) l h = tt
   base-fits (fn ts τ) l h = absurd h
+  base-fits (vec-of τ) l h = absurd h
 
   -- a reference is no value's type
   ref-apart : (r q : ℕ) (σ : Ty) → Spells q σ → same 128 t M (131072 + r) q ≡ false
   ref-apart r q σ s =
       let k : noteKind t (131072 + r) ≡ 65536 + r = above (131072 + r) (omega arith) ∙ less r in
       let low = low-kind q σ s in
-      same-base 128 (131072 + r) q (rw k (no-fun (65536 + r) (omega arith))) ∙ rw k (ne-eqb (65536 + r) (noteKind t q) (λ e. omega arith))
+      same-base 128 (131072 + r) q (rw k (no-fun (65536 + r) (omega arith))) (rw k (no-vec (65536 + r) (omega arith))) ∙ rw k (ne-eqb (65536 + r) (noteKind t q) (λ e. omega arith))
     where
       less : (r : ℕ) → 131072 + r - 65536 ≡ 65536 + r
       less r = omega arith
@@ -286,6 +333,7 @@ module _ (t N M : List ℕ) (lo k : ℕ) (less : k ≤ lo) (agree : Agree lo N M
     spells-move (s-bool e) = s-bool e
     spells-move (s-int e) = s-int e
     spells-move (s-fn e p) = s-fn e (parts-move p)
+    spells-move (s-vec e s) = s-vec e (spells-move s)
 
     parts-move : {r y : ℕ} {ts : Tys} {τ : Ty} → Parts t N lo r y ts τ → Parts t M k r y ts τ
     parts-move (p-last {r} {y} {τ} i j e o s) =

@@ -28,7 +28,7 @@ use Rattle.judge.proofs.Scoping.{first}
 use Rattle.judge.proofs.Spelling.{pos-not, Spells, same-right, Gives, gives-value, gives-ref, Args, args-none, args-more, Fitted, fitted, unfitted, fits-right}
 use Rattle.judge.proofs.Verdicts.{Run, said-type, One, one-fine, one-bad, Kids, Own, own-fine, own-bad, Ends, ends, kids-bind, Sit, Seat, seat, kids-done, below, kids-then, kids-past, node-one}
 use Rattle.judge.proofs.Looking.{Written, binds-value, binds-ref, binds-proc, Found, found-none, found, binder-found, Scope, scope-up, scope-inner, scope-outer}
-use Rattle.judge.proofs.Parameters.{own-pass}
+use Rattle.judge.proofs.Written.{own-pass}
 use Rattle.judge.proofs.Expressions.{expr-binds, all-front, all-rest, has-at, has-low, is-bool, is-int, args-move, env-here, env-low, plain-role, behind′, expr-one}
 use Rattle.judge.proofs.Definitions.{silent-name, name-place, Fine}
 

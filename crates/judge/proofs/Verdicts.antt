@@ -196,6 +196,12 @@ module _ (g : Run) where
     kids-then k′ (one-fine {a} pa b cl) f = then-kids b cl (f a refl pa)
     kids-then k′ (one-bad b fs) f = kids-bad (λ M a d l. row-bad M a d l b) (first-wider (behind h) fs)
 
+  -- a row's last tree
+  pub kids-last : {A : Type 0} {P : A → Type 0} {k p n hi row row′ v : ℕ} {c : Nodes} {r : Result A} (h : Seat k p c end n hi row row′ v) → 0 < n
+      → One P n (h .mid) r → Kids (Ends P) (node k p c end) n hi r
+  kids-last h z (one-fine pa b cl) = then-kids h z b cl (kids-done (h .rest) (ends pa))
+  kids-last h z (one-bad b fs) = kids-bad (λ M a d l. row-bad h z M a d l b) (first-wider (behind h) fs)
+
   -- a node whose children were judged: its own rule
   module _ {k p n m row row′ v : ℕ} {c s : Nodes} (h : Seat k p c s n m row row′ v) (l : m ≤ g.count) where
     abbrev pub Rule : {A : Type 0} → (A → Type 0) → Result A → Type 0

@@ -7,7 +7,7 @@ use lib.Dec.{eqb, ltb}
 use lib.ListN.{length, getD}
 use Rattle.judge.specs.Names.{nineAt}
 use Rattle.judge.specs.Scopes.{pick, kindAt, placeAt, childAt, nextAt, envAt, roleAt, behindAt, findFrom, namedFrom}
-use Rattle.judge.specs.Types.{noteKind, isFun, partsOf, resultType, same, fitsFrom}
+use Rattle.judge.specs.Types.{noteKind, isFun, partsOf, resultType, same, fitsFrom, isVec}
 
 -- this note if the test holds, else refused
 abbrev pub passes : Bool → ℕ → ℕ
@@ -96,6 +96,37 @@ appRule x t N h =
 -- (adr x): a reference to what x stores
 unfoldable pub adrRule : List ℕ → List ℕ → List ℕ → ℕ → ℕ
 adrRule x t S i = pick (eqb (targetType x t S i) 0) (λ _. 65536) λ _. 131072 + targetType x t S i
+
+-- BLOCKS OF CELLS
+
+-- a block may be of any type but a function's
+unfoldable pub isElement : ℕ → Bool
+isElement k = pick (eqb k 17) (λ _. false) λ _. true
+
+-- what y has is a block's type
+unfoldable pub hasVec : List ℕ → List ℕ → ℕ → Bool
+hasVec t N y = isVec (noteKind t (getD N y 0))
+
+-- (alloc T e), the node i, with y its first part: it spells its own type
+unfoldable pub allocRule : List ℕ → List ℕ → ℕ → ℕ → ℕ
+allocRule t N i y = pick (isElement (kindAt t y)) (λ _. passes (hasKind t N 16 (nextAt t y)) i) λ _. 65536
+
+-- (nth a b): what the block is of
+unfoldable pub nthRule : List ℕ → List ℕ → ℕ → ℕ
+nthRule t N a = pick (hasVec t N a) (λ _. passes (hasKind t N 16 (nextAt t a)) (childAt t (getD N a 0))) λ _. 65536
+
+-- (len a)
+unfoldable pub lenRule : List ℕ → List ℕ → ℕ → ℕ
+lenRule t N a = passes (hasVec t N a) 65552
+
+-- (vset a b c): the block
+unfoldable pub vsetRule : List ℕ → List ℕ → ℕ → ℕ
+vsetRule t N a =
+    pick (hasVec t N a)
+    (λ _. pick (hasKind t N 16 (nextAt t a))
+    (λ _. passes (same 128 t N (getD N (nextAt t (nextAt t a)) 0) (childAt t (getD N a 0))) (getD N a 0))
+    λ _. 65536)
+    λ _. 65536
 
 -- DEFINITIONS AND PARAMETERS
 
@@ -186,9 +217,18 @@ exprBy k x t S N i =
     pick (eqb k 24) (λ _. i) λ _.
     pick (eqb k 25) (λ _. adrRule x t S i) λ _. boolsRule t N (childAt t i)
 
+-- a vec, and the expressions with blocks
+unfoldable pub vecBy : ℕ → List ℕ → List ℕ → ℕ → ℕ
+vecBy k t N i =
+    pick (eqb k 26) (λ _. passes (isElement (kindAt t (childAt t i))) 65537) λ _.
+    pick (eqb k 27) (λ _. allocRule t N i (childAt t i)) λ _.
+    pick (eqb k 28) (λ _. nthRule t N (childAt t i)) λ _.
+    pick (eqb k 29) (λ _. lenRule t N (childAt t i)) λ _. vsetRule t N (childAt t i)
+
 -- the own rule of the node i of kind k
 unfoldable pub ownBy : ℕ → List ℕ → List ℕ → List ℕ → List ℕ → ℕ → ℕ
 ownBy k x t S N i =
     pick (ltb k 8) (λ _. defBy k x t N i) λ _.
     pick (ltb k 13) (λ _. statBy k x t S N i) λ _.
-    pick (ltb k 18) (λ _. paramBy k x t S i) λ _. exprBy k x t S N i
+    pick (ltb k 18) (λ _. paramBy k x t S i) λ _.
+    pick (ltb k 26) (λ _. exprBy k x t S N i) λ _. vecBy k t N i

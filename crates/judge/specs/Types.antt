@@ -1,7 +1,8 @@
 -- Types over the tree table t and the notes N. A note is 65536 + k for a type or an outcome of kind k (65551 bool, 65552 int, 65537 fine, 65555 an operator
--- as a head), the node that spells a type (a type, FUN, FUN REC or an abstraction), or 131072 more than such a node for a reference;
+-- as a head), the node that spells a type (a type, FUN, FUN REC, an abstraction or an alloc), or 131072 more than such a node for a reference;
 -- 65536 says that the node's own rule is not met, 131072 that it is a parameter named like one before it, and 0 that a node below is refused.
 -- All spellings of a function's type have one shape: a row of siblings, of which all but the last are parameters and the last is or has the result.
+-- A block's type is spelled by a vec or an alloc: what it is of is the first child.
 use Prim.Native.Nat.{ℕ, zero, suc, _-_}
 use mathlib.Core.Bool.{Bool, true, false}
 use mathlib.Core.List.{List}
@@ -16,6 +17,10 @@ noteKind t r = pick (ltb r 65536) (λ _. kindAt t r) λ _. r - 65536
 -- does a node of this kind spell a function's type?
 unfoldable pub isFun : ℕ → Bool
 isFun k = pick (eqb k 17) (λ _. true) λ _. pick (eqb k 24) (λ _. true) λ _. pick (eqb k 3) (λ _. true) λ _. eqb k 4
+
+-- does a node of this kind spell a block's type?
+unfoldable pub isVec : ℕ → Bool
+isVec k = pick (eqb k 26) (λ _. true) λ _. eqb k 27
 
 -- the first part: parameters, then the result or the body, each but the last with a sibling
 unfoldable pub partsOf : List ℕ → ℕ → ℕ
@@ -40,13 +45,15 @@ sameParts f t N a b (suc n) y z =
     pick (eqb (nextAt t z) 0) (λ _. false) λ _.
     pick (f (paramType t y) (paramType t z)) (λ _. sameParts f t N a b n (nextAt t y) (nextAt t z)) λ _. false
 
--- two types are the same, with so many levels left: bool and int have none, a function's type one more than its parts
+-- two types are the same, with so many levels left: bool and int have none, a function's type and a block's one more than their parts
 unfoldable pub same : ℕ → List ℕ → List ℕ → ℕ → ℕ → Bool
-same zero t N a b = pick (isFun (noteKind t a)) (λ _. false) λ _. eqb (noteKind t a) (noteKind t b)
+same zero t N a b =
+    pick (isFun (noteKind t a)) (λ _. false) λ _. pick (isVec (noteKind t a)) (λ _. false) λ _. eqb (noteKind t a) (noteKind t b)
 same (suc l) t N a b =
     pick (isFun (noteKind t a))
-    (λ _. pick (isFun (noteKind t b)) (λ _. sameParts (same l t N) t N a b (length t) (partsOf t a) (partsOf t b)) λ _. false)
-    λ _. eqb (noteKind t a) (noteKind t b)
+    (λ _. pick (isFun (noteKind t b)) (λ _. sameParts (same l t N) t N a b (length t) (partsOf t a) (partsOf t b)) λ _. false) λ _.
+    pick (isVec (noteKind t a)) (λ _. pick (isVec (noteKind t b)) (λ _. same l t N (childAt t a) (childAt t b)) λ _. false) λ _.
+    eqb (noteKind t a) (noteKind t b)
 
 -- the argument z is what the parameter y takes: a var parameter takes a reference, any other a value
 unfoldable pub argFits : List ℕ → List ℕ → ℕ → ℕ → Bool

@@ -11,18 +11,18 @@ use lib.IntN.{pos, negsuc}
 use lib.ListN.{length}
 use mir.Syntax.{w64}
 use mir.Val.{toZ, sel}
-use Rattle.language.specs.Answers.{LimitStop, Stop, limit, stop-number}
+use Rattle.language.specs.Answers.{LimitStop, ErrorStop, Stop, limit, error, stop-number}
 use Rattle.language.specs.Numbers.{as-bit}
-use Rattle.language.specs.Rules.{Val, Env, State, no-rule, Outcome, ok, halt, bind, need, within, branch, as-number, as-truth, as-address}
+use Rattle.language.specs.Rules.{Val, Env, State, no-rule, Outcome, ok, halt, bind, need, otherwise, within, branch, as-number, as-truth, as-address, as-block}
 use Rattle.machine.specs.declared.Row.{Row}
 use Rattle.machine.specs.declared.Ending.{Ending}
 use Rattle.machine.specs.declared.Ending.the-variants.{NoRule}
 use Rattle.machine.specs.declared.Ending.the-variants as E
-use Rattle.machine.specs.Entries.{pick, number-tag, address-tag, binding}
+use Rattle.machine.specs.Entries.{pick, number-tag, address-tag, block-tag, firstOf, lengthOf, binding}
 use Rattle.machine.specs.State.{Tables, Ret, is, andThen}
 use Rattle.machine.specs.Machine.{onBit}
 use Rattle.machine.proofs.Lists.{Asks, asks-yes, asks-no}
-use Rattle.machine.proofs.Relation.{Stage, Kept, Thing, Old, Rep, v-num, v-fun, v-rec, v-proc, v-proc-rec, v-adr, e-none, e-bound, ValR, EnvR, CellR, c-unset, c-set, Waits, w-none, w-more, R, Grow, Sim, goes, stops, no-way, Spent, Made, Some, Waiting}
+use Rattle.machine.proofs.Relation.{Stage, Kept, Thing, Old, Rep, v-num, v-fun, v-rec, v-proc, v-proc-rec, v-adr, v-block, e-none, e-bound, ValR, EnvR, CellR, c-unset, c-set, Waits, w-none, w-more, R, Grow, Sim, goes, stops, no-way, Spent, Made, Some, Waiting}
 use Rattle.machine.proofs.Steps.{more}
 
 pub bind-ok : {A B : Type 0} (a : A) (s : State) (k : A → State → Outcome B) → bind (ok a s) k ≡ k a s
@@ -47,6 +47,7 @@ module _ {g : Stage} where
   keep (v-proc p e n) h o = v-proc p e (keep n h o)
   keep (v-proc-rec p e n) h o = v-proc-rec p e (keep n h o)
   keep v-adr h o = v-adr
+  keep (v-block x) h o = v-block x
   keep e-none h o = e-none
   keep (e-bound {k = k} l e u n q w j) h o =
       e-bound (le-trans l h) (o k l ∙ e) (keep u (le-refl _) (λ j s. o j (le-trans s (omega arith))))
@@ -72,6 +73,7 @@ module _ {g : Stage} where
   tag-small (v-proc p e n) = omega arith
   tag-small (v-proc-rec p e n) = omega arith
   tag-small v-adr = omega arith
+  tag-small (v-block x) = omega arith
 
   -- ---- states that go on
 
@@ -244,6 +246,13 @@ module _ {g : Stage} where
     end-need p (asks-yes q) s f = f _ q
     end-need p asks-no s f = no-way s
 
+    -- what a script must see to
+    pub sim-otherwise : {o : Option A} {b : Bool} (x : ErrorStop) (p : ℕ) {s : State} {sp : ℕ} {m : Tables} {k : A → Outcome B} {r : Ret} → Asks Q o b → R g s m →
+        ((a : A) → Q a → Sim g P sp m (k a) r) → Sim g P sp m (otherwise o x p s k) (pick b (λ _. r) (λ _. is (E.Stop (stop-number (error x)) p) m))
+    unfolding otherwise pick
+    sim-otherwise x p (asks-yes q) s f = f _ q
+    sim-otherwise x p asks-no s f = stops s
+
   -- ---- the forms of values
 
   pub asks-num : {b : List ℕ} {c t x : ℕ} {u : Val} → ValR g b c u t x → Asks (λ z. z ≡ toZ w64 x) (as-number u) (eqb t number-tag)
@@ -253,6 +262,7 @@ module _ {g : Stage} where
   asks-num (v-proc p e n) = asks-no
   asks-num (v-proc-rec p e n) = asks-no
   asks-num v-adr = asks-no
+  asks-num (v-block x) = asks-no
 
   pub asks-address : {b : List ℕ} {c t x : ℕ} {u : Val} → ValR g b c u t x → Asks (λ a. a ≡ x) (as-address u) (eqb t address-tag)
   asks-address (v-num x) = asks-no
@@ -261,6 +271,16 @@ module _ {g : Stage} where
   asks-address (v-proc p e n) = asks-no
   asks-address (v-proc-rec p e n) = asks-no
   asks-address v-adr = asks-yes refl
+  asks-address (v-block x) = asks-no
+
+  pub asks-block : {b : List ℕ} {c t x : ℕ} {u : Val} → ValR g b c u t x → Asks (λ k. k ≡ (firstOf x, lengthOf x)) (as-block u) (eqb t block-tag)
+  asks-block (v-num x) = asks-no
+  asks-block (v-fun p e n) = asks-no
+  asks-block (v-rec p e n) = asks-no
+  asks-block (v-proc p e n) = asks-no
+  asks-block (v-proc-rec p e n) = asks-no
+  asks-block v-adr = asks-no
+  asks-block (v-block x) = asks-yes refl
 
 -- a word of 2 and more is no bit
 pub no-bit : (b : Bool) (n k : ℕ) → as-bit (sel b (pos (suc (suc n))) (negsuc k)) ≡ none
@@ -286,3 +306,4 @@ module _ {g : Stage} {B : Type 0} {P : B → (t x : ℕ) → Tables → Type 0} 
   sim-bit p (v-proc q e n) s h k = no-way s
   sim-bit p (v-proc-rec q e n) s h k = no-way s
   sim-bit p v-adr s h k = no-way s
+  sim-bit p (v-block x) s h k = no-way s

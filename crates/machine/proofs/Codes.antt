@@ -9,7 +9,7 @@ use lib.ListN.{length, getD, length-append}
 use mir.Syntax.{w64}
 use mir.Val.{ofZ}
 use borrow.Author.Tests.{ne-eqb, eq-eqb}
-use Rattle.language.specs.Syntax.{Name, at, TypeTree, Arg, arg, ArgP, Expr, num, name, if-expr, and, or, app, abs, Exprs, one-expr, more-exprs, ExprP, Cmds, last, def-then, stat-then, Def, const, fun, fun-rec, var, proc, proc-rec, Stat, echo, if-stat, while, call, Block, block}
+use Rattle.language.specs.Syntax.{Name, at, TypeTree, Arg, arg, ArgP, Expr, num, name, if-expr, and, or, app, abs, alloc, nth-expr, len, vset, Exprs, one-expr, more-exprs, ExprP, Cmds, last, def-then, stat-then, Def, const, fun, fun-rec, var, proc, proc-rec, Stat, echo, if-stat, while, call, Block, block}
 use Rattle.language.specs.Syntax as Syntax
 use Rattle.language.specs.Names.{head-operator}
 use Rattle.language.specs.Numbers.{ranged}
@@ -18,7 +18,7 @@ use Rattle.language.specs.Types.{values, param-names}
 use Rattle.language.specs.Table.{Forest, leaf, fork, size, first, shapeType, shapeArg, shapeArgs, shapeArgP, shapeArgsP, shapeExpr, shapeExprs, shapeExprP, shapeExprsP, shapeCmds, shapeDef, shapeStat, shapeBlock}
 use Rattle.language.specs.Table as F
 use Rattle.nodes.specs.Forests.{Laid, laid-none, laid-leaf, laid-fork}
-use Rattle.nodes.specs.Trees.{Script, kind, place, child, next, AtType, at-bool, at-int, at-arrow, at-val-param, at-var-param, AtParams, at-no-param, at-more-params, AtE, at-num, at-name, at-if, at-and, at-or, at-app, at-abs, AtEs, at-one-expr, at-more-exprs, AtA, at-val, at-adr, AtAs, at-no-arg, at-more-args, AtCs, at-last, at-def-then, at-stat-then, AtD, at-const, at-fun, at-fun-rec, at-var, at-proc, at-proc-rec, AtS, at-echo, at-set, at-if-stat, at-while, at-call, AtB, at-block, ReadAs}
+use Rattle.nodes.specs.Trees.{Script, kind, place, child, next, AtType, at-bool, at-int, at-arrow, at-vec, at-val-param, at-var-param, AtParams, at-no-param, at-more-params, AtE, at-num, at-name, at-if, at-and, at-or, at-app, at-abs, at-alloc, at-nth, at-len, at-vset, AtEs, at-one-expr, at-more-exprs, AtA, at-val, at-adr, AtAs, at-no-arg, at-more-args, AtCs, at-last, at-def-then, at-stat-then, AtD, at-const, at-fun, at-fun-rec, at-var, at-proc, at-proc-rec, AtS, at-echo, at-set, at-if-stat, at-while, at-call, AtB, at-block, ReadAs}
 use Rattle.nodes.specs.Written.{numberAt}
 use Rattle.nodes.proofs.Laws.{type-there, params-there, expr-there}
 use Rattle.nodes.proofs.Program.{few-nodes, laid-program, root}
@@ -151,6 +151,7 @@ module _ (g : Script) (codes : List ℕ) where
   past-type {i} {Γ = Γ} {own} s (at-bool k) z (sc-leaf c h) = past own i 15 Γ (k .kind-is) z h
   past-type {i} {Γ = Γ} {own} s (at-int k) z (sc-leaf c h) = past own i 16 Γ (k .kind-is) z h
   past-type {i} {Γ = Γ} {own} s (at-arrow k a b e) z (sc-fork c d h) = past own i 17 Γ (k .kind-is) z h
+  past-type {i} {Γ = Γ} {own} s (at-vec k a e) z (sc-fork c d h) = past own i 26 Γ (k .kind-is) z h
 
   past-params : {i j : ℕ} {ps : List ArgP} {Γ : List Name} {own : Option Name} (s : Forest) → AtParams g i ps j → (j ≡ 0 → ⊥) → Scoped Γ own i (shapeArgsP ps s) →
       Scoped (extended (param-names ps) Γ) own j s
@@ -190,6 +191,10 @@ module _ (g : Script) (codes : List ℕ) where
   own-expr (or p a b) f {j} {Γ} e (sc-fork c h sc-none) = own-fork f j Γ e c h
   own-expr (app p a b) f {j} {Γ} e (sc-fork c h sc-none) = own-fork f j Γ e c h
   own-expr (abs p a b) f {j} {Γ} e (sc-fork c h sc-none) = own-fork f j Γ e c h
+  own-expr (alloc p t a) f {j} {Γ} e (sc-fork c h sc-none) = own-fork f j Γ e c h
+  own-expr (nth-expr p a b) f {j} {Γ} e (sc-fork c h sc-none) = own-fork f j Γ e c h
+  own-expr (len p a) f {j} {Γ} e (sc-fork c h sc-none) = own-fork f j Γ e c h
+  own-expr (vset p a b d) f {j} {Γ} e (sc-fork c h sc-none) = own-fork f j Γ e c h
 
   own-block : (b : Block) (f : Name) {j : ℕ} {Γ : List Name} → next g j ≡ 0 → Scoped Γ (some f) j (shapeBlock b F.none) → Scoped (f ∷ Γ) none j (shapeBlock b F.none)
   unfolding shapeBlock
@@ -206,6 +211,10 @@ module _ (g : Script) (codes : List ℕ) where
   head-is (at-or k a b z) = rw (k .kind-is)
   head-is (at-app k f es) = rw (k .kind-is)
   head-is (at-abs k ps e z) = rw (k .kind-is)
+  head-is (at-alloc k t a z) = rw (k .kind-is)
+  head-is (at-nth k a b z) = rw (k .kind-is)
+  head-is (at-len k a z) = rw (k .kind-is)
+  head-is (at-vset k a b c z) = rw (k .kind-is)
 
   past-expr : {i : ℕ} {e : Expr} {Γ : List Name} (s : Forest) → AtE g i e → Scoped Γ none i (shapeExpr e s) → Scoped Γ none (next g i) s
   unfolding shapeExpr entry after isParam pick
@@ -216,6 +225,10 @@ module _ (g : Script) (codes : List ℕ) where
   past-expr {i} {Γ = Γ} s (at-or k a b z) (sc-fork c x h) = behind i 22 Γ (k .kind-is) h
   past-expr {i} {Γ = Γ} s (at-app k f es) (sc-fork c x h) = behind i 23 Γ (k .kind-is) h
   past-expr {i} {Γ = Γ} s (at-abs k ps e z) (sc-fork c x h) = behind i 24 Γ (k .kind-is) h
+  past-expr {i} {Γ = Γ} s (at-alloc k t a z) (sc-fork c x h) = behind i 27 Γ (k .kind-is) h
+  past-expr {i} {Γ = Γ} s (at-nth k a b z) (sc-fork c x h) = behind i 28 Γ (k .kind-is) h
+  past-expr {i} {Γ = Γ} s (at-len k a z) (sc-fork c x h) = behind i 29 Γ (k .kind-is) h
+  past-expr {i} {Γ = Γ} s (at-vset k a b d z) (sc-fork c x h) = behind i 30 Γ (k .kind-is) h
 
   -- what a node that is this tree has below it
   leaf-of : {Γ : List Name} {own : Option Name} {i k p : ℕ} {s : Forest} → Scoped Γ own i (leaf k p s) → getD codes i 0 ≡ codeFor g (kind g i) i (entry g own i Γ)
@@ -248,6 +261,19 @@ module _ (g : Script) (codes : List ℕ) where
   in-abs : {i p : ℕ} {ps : List Arg} {e : Expr} → AtE g i (abs p ps e) → (kind g i ≡ 24) × ((j : ℕ) × AtParams g (child g i) (values ps) j × AtE g j e)
   in-abs (at-abs k a b z) = (k .kind-is, (_, a, b))
 
+  in-alloc : {i p : ℕ} {t : TypeTree} {a : Expr} → AtE g i (alloc p t a) → (kind g i ≡ 27) × AtType g (child g i) t × AtE g (next g (child g i)) a
+  in-alloc (at-alloc k t a z) = (k .kind-is, t, a)
+
+  in-nth : {i p : ℕ} {a b : Expr} → AtE g i (nth-expr p a b) → (kind g i ≡ 28) × AtE g (child g i) a × AtE g (next g (child g i)) b
+  in-nth (at-nth k a b z) = (k .kind-is, a, b)
+
+  in-len : {i p : ℕ} {a : Expr} → AtE g i (len p a) → (kind g i ≡ 29) × AtE g (child g i) a
+  in-len (at-len k a z) = (k .kind-is, a)
+
+  in-vset : {i p : ℕ} {a b c : Expr} → AtE g i (vset p a b c) →
+      (kind g i ≡ 30) × AtE g (child g i) a × AtE g (next g (child g i)) b × AtE g (next g (next g (child g i))) c
+  in-vset (at-vset k a b c z) = (k .kind-is, a, b, c)
+
   in-one : {i : ℕ} {e : Expr} → AtEs g i (one-expr e) → AtE g i e
   in-one (at-one-expr a z) = a
 
@@ -274,6 +300,14 @@ module _ (g : Script) (codes : List ℕ) where
         let v = in-abs t in
         λ j′ a′. subst (λ (n : ℕ). CodedE g codes (extended (param-names (values ps)) Γ) n e) (one-end (v .1 .1) a′)
         (coded-expr e F.none (v .1 .2) (past-values ps _ (v .1 .1) (expr-there (v .1 .2)) (kids-of i 24 (v .0) (fork-of h .1))))
+    coded-expr (alloc p y a) {i} s t h =
+        let v = in-alloc t in coded-expr a F.none (v .2) (past-type _ (v .1) (expr-there (v .2)) (kids-of i 27 (v .0) (fork-of h .1)))
+    coded-expr (nth-expr p a b) {i} s t h =
+        let v = in-nth t in let x = kids-of i 28 (v .0) (fork-of h .1) in (coded-expr a _ (v .1) x, coded-expr b _ (v .2) (past-expr _ (v .1) x))
+    coded-expr (len p a) {i} s t h = let v = in-len t in coded-expr a F.none (v .1) (kids-of i 29 (v .0) (fork-of h .1))
+    coded-expr (vset p a b c) {i} s t h =
+        let v = in-vset t in let x = kids-of i 30 (v .0) (fork-of h .1) in let y = past-expr _ (v .1) x in
+        (coded-expr a _ (v .1) x, coded-expr b _ (v .2) y, coded-expr c _ (v .3) (past-expr _ (v .2) y))
 
     coded-exprs : (es : Exprs) {i : ℕ} {Γ : List Name} → AtEs g i es → Scoped Γ none i (shapeExprs es F.none) → CodedEs g codes Γ i es
     coded-exprs (one-expr e) t h = coded-expr e _ (in-one t) h

@@ -21,7 +21,7 @@ use Rattle.machine.proofs.Entries.{child-small, next-small}
 use Rattle.machine.proofs.Lists.{asks-stored, room-one}
 use Rattle.machine.proofs.Relation.{Stage, run-of, slot, v-adr, R, Sim, goes, Spent, IsEnv, IsDone, Here, Adeq, Named, IsVal, node, scope, InE, InAs, InB}
 use Rattle.machine.proofs.Agree.{keep, grow-self, sim-lift, relax, making, sim-within, sim-bind, sim-call, sim-end, sim-need, asks-num, sim-bit}
-use Rattle.machine.proofs.States.{old-more, r-bind, r-put-out, r-cell, r-store, sim-guard}
+use Rattle.machine.proofs.States.{old-more, r-bind, r-put-out, r-cells, r-store, sim-guard}
 use Rattle.machine.proofs.Closures.{function-value, procedure-value, recursive-function-value, recursive-procedure-value}
 use Rattle.machine.proofs.Enter.{env-more, kept-binding, procedure-sim, sim-open}
 use Rattle.machine.proofs.Names.{sim-look, sim-address}
@@ -46,10 +46,11 @@ module _ {g : Stage} where
       Sim g (IsEnv g (z ∷ scope ρ)) sp m (def-rule g.limits l (var (place g.script i) (at (place g.script (child g.script i)) z) y) ρ s)
       (defineCell (run-of g) (place g.script i) env m)
   unfolding defineCell
-  var-sim l i z y n r =
+  var-sim l i z y {m = m} n r =
       rw (r .cells) (sim-within _ _ _ _ (λ h. h, λ h. h) r λ e.
+      let c : m .counts .cells < g.limits .cells = ltb→lt _ _ e in
       sim-lift (record { more = le-refl _; old = λ k h. refl; waits = λ k s h. refl; fell = le-refl _ })
-      (define-sim _ z v-adr n (r-cell r (ltb→lt _ _ e))))
+      (define-sim _ z v-adr n (r-cells r 1 (omega (arith, c)))))
 
   module _ {l : Level} {S : Evaluators} (h : Adeq g l S) where
     const-sim : (i : ℕ) (z : Name) (y : TypeTree) {e : Expr} {ρ : Env} {env sp : ℕ} {s : State} {m : Tables} →

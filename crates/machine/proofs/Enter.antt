@@ -27,7 +27,7 @@ use Rattle.machine.specs.State.{Tables, Ret, is, andThen, bind}
 use Rattle.machine.specs.Leaves.{codeIn, jumpFrom, bindingBehind, isParam, bodyAfter, bindAll, enter, enterAgain, openFunction, openProcedure}
 use Rattle.machine.proofs.Entries.{binding-own, binding-length, binding-beyond}
 use Rattle.machine.proofs.Lists.{room-is}
-use Rattle.machine.proofs.Relation.{Stage, run-of, slot, Kept, Old, v-num, v-fun, v-rec, v-proc, v-proc-rec, v-adr, e-bound, ValR, EnvR, Waits, w-none, w-more, R, Grow, Sim, goes, no-way, Made, Waiting, IsEntered, Zip, z-none, z-more, Fit, fit, unfit, Bound, Named, Wait, IsVal, scope, InE, InB}
+use Rattle.machine.proofs.Relation.{Stage, run-of, slot, Kept, Old, v-num, v-fun, v-rec, v-proc, v-proc-rec, v-adr, v-block, e-bound, ValR, EnvR, Waits, w-none, w-more, R, Grow, Sim, goes, no-way, Made, Waiting, IsEntered, Zip, z-none, z-more, Fit, fit, unfit, Bound, Named, Wait, IsVal, scope, InE, InB}
 use Rattle.machine.proofs.Chain.{code-in, code-most, jump-from}
 use Rattle.machine.proofs.Agree.{kept-self, kept-then, keep, waits-keep, env-in, tag-small, sim-within, sim-bind}
 use Rattle.machine.proofs.States.{old-more, r-bind}
@@ -207,6 +207,7 @@ module _ {g : Stage} where
   function-sim p k n (v-proc a b e) w r = no-way r
   function-sim p k n (v-proc-rec a b e) w r = no-way r
   function-sim p k n v-adr w r = no-way r
+  function-sim p k n (v-block x) w r = no-way r
 
   pub procedure-sim : (p k n : ℕ) {t x : ℕ} {u : Val} {us : List Val} {sp : ℕ} {s : State} {m₀ m : Tables} → IsVal g u t x m →
       Waiting g m₀ sp 0 us k n m → R g s m →
@@ -219,6 +220,7 @@ module _ {g : Stage} where
   procedure-sim p k n (v-proc a b e) w r = enter-sim p k n _ a b w e r
   procedure-sim p k n (v-proc-rec a b e) w r = again-sim p k n _ _ _ _ a b w e (v-proc-rec a b e) r
   procedure-sim p k n v-adr w r = no-way r
+  procedure-sim p k n (v-block x) w r = no-way r
 
 -- what is entered, and then the rest
 within-bind : {A B : Type 0} (b : Bool) (l : LimitStop) (p : ℕ) (s : State) (o : Outcome A) (k : A → State → Outcome B) →

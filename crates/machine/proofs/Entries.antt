@@ -1,7 +1,7 @@
 -- What is read after a write: rows, bindings and closures.
 use mathlib.Core.Path.{_≡_, refl, ap, _∙_}
-use mathlib.Core.Logic.{_≢_}
-use Prim.Native.Nat.{ℕ, suc, _+_, _*_, _≤_, _<_}
+use mathlib.Core.Logic.{_≢_, ⊎-elim}
+use Prim.Native.Nat.{ℕ, zero, suc, _+_, _*_, _≤_, _<_}
 use native.Mathlib.Omega.{arith}
 use mathlib.Core.Bool.{Bool, true, false}
 use mathlib.Core.List.{List}
@@ -9,8 +9,9 @@ use lib.Dec.{ltb, lt→ltb}
 use lib.ListN.{length, getD, set, drop, length-set}
 use lib.Seq.{getD-set-same, getD-set-other, drop-set-lt}
 use Rattle.nodes.specs.Nodes.{nodeAt}
+use Rattle.nodes.proofs.Links.{below-or-not}
 use Rattle.machine.specs.declared.Binding.{Binding}
-use Rattle.machine.specs.Entries.{pick, most-rows, row, rowAt, putRow, binding, headOf, bindingOf, bindingAt, putBinding, closureWord, nodeOf, envOf}
+use Rattle.machine.specs.Entries.{pick, most-rows, row, rowAt, putRow, putRows, binding, headOf, bindingOf, bindingAt, putBinding, closureWord, nodeOf, envOf}
 use Rattle.machine.proofs.Members.{pick-true}
 
 row-eq : {t t′ x x′ : ℕ} → t ≡ t′ → x ≡ x′ → row t x ≡ row t′ x′
@@ -71,6 +72,34 @@ module _ (l : List ℕ) (k t x : ℕ) where
   row-own m h =
       pick-true (ltb k most-rows) _ _ (lt→ltb k most-rows m) ∙
       ap (λ (w : List ℕ). row (getD w (2 * k) 0) (getD w (2 * k + 1) 0)) (pick-true (ltb k most-rows) (λ _. written) _ (lt→ltb k most-rows m)) ∙ own h
+
+-- the same row n times
+module _ (t x : ℕ) where
+  pub rows-length : (n : ℕ) (l : List ℕ) (k : ℕ) → length (putRows n l k t x) ≡ length l
+  unfolding putRows
+  rows-length zero l k = refl
+  rows-length (suc n) l k = rows-length n (putRow l k t x) (suc k) ∙ row-length l k t x
+
+  pub rows-beyond : (n : ℕ) (l : List ℕ) (k r : ℕ) → 2 * (n + k) ≤ r → drop r (putRows n l k t x) ≡ drop r l
+  unfolding putRows
+  rows-beyond zero l k r h = refl
+  rows-beyond (suc n) l k r h = rows-beyond n (putRow l k t x) (suc k) r (omega arith) ∙ row-beyond l k t x r (omega arith)
+
+  pub rows-before : (n : ℕ) (l : List ℕ) (k j : ℕ) → j < k → rowAt (putRows n l k t x) j ≡ rowAt l j
+  unfolding putRows
+  rows-before zero l k j h = refl
+  rows-before (suc n) l k j h = rows-before n (putRow l k t x) (suc k) j (omega arith) ∙ row-other l k t x j (omega arith)
+
+  pub rows-own : (n : ℕ) (l : List ℕ) (k j : ℕ) → k ≤ j → j < n + k → n + k ≤ most-rows → 2 * (n + k) ≤ length l → rowAt (putRows n l k t x) j ≡ row t x
+  unfolding putRows
+  rows-own zero l k j a b c d = absurd (omega arith)
+  rows-own (suc n) l k j a b c d =
+      ⊎-elim (λ h. rows-own n (putRow l k t x) (suc k) j h (omega arith) (omega arith) (let e = row-length l k t x in omega (arith, e)))
+      (λ h. rows-before n (putRow l k t x) (suc k) j (omega arith) ∙ (ap (λ (i : ℕ). rowAt (putRow l k t x) i) (same j k a h) ∙ row-own l k t x (omega arith) (omega arith)))
+      (below-or-not k j)
+    where
+      same : (j k : ℕ) → k ≤ j → j ≤ k → j ≡ k
+      same j k h i = omega arith
 
 -- a binding's parts that fit 16 bits come back
 binding-back : (c t x l j : ℕ) → c < 65536 → t < 65536 → l < 65536 → j < 65536 → bindingOf (row (headOf c t l j) x) ≡ binding c t x l j

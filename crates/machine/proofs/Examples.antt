@@ -7,7 +7,7 @@ use lib.IntN.{pos, negsuc}
 use lib.ListN.{replicate}
 use Rattle.language.specs.Bytes.{bytesOf}
 use Rattle.language.specs.Syntax.{Block}
-use Rattle.language.specs.Answers.{DEPTH, BINDINGS, RANGE, limit, error, done, stopped, Result, fine, refuse}
+use Rattle.language.specs.Answers.{DEPTH, CELLS, BINDINGS, RANGE, UNSET, SIZE, INDEX, limit, error, done, stopped, Result, fine, refuse}
 use Rattle.language.specs.Names.{meaning}
 use Rattle.language.specs.Limits.{Limits}
 use Rattle.language.specs.Outcome.{Report}
@@ -19,11 +19,11 @@ use Rattle.language.proofs.reading.Descent.{descent}
 use Rattle.language.proofs.reading.Reader.{past, deep, read}
 use Rattle.nodes.specs.Nodes.{nodeAt}
 use Rattle.nodes.specs.Written.{numberAt}
-use Rattle.machine.specs.Entries.{pick, rowAfter, rowAt, putRow, bindingAt, putBinding, closureWord, nodeOf, envOf}
+use Rattle.machine.specs.Entries.{pick, rowAfter, rowAt, putRow, putRows, bindingAt, putBinding, closureWord, nodeOf, envOf}
 use Rattle.machine.specs.State.{andThen, guard}
 use Rattle.machine.specs.Codes.{codeOver, levelIn, operatorAt, codeFor, after, ownOf, entry, rowCodes, codesOf}
-use Rattle.machine.specs.Leaves.{codeIn, jumpIn, jumpFrom, bindingBehind, walk, boundTo, addressOf, readThrough, nameValue, computedBy, negated, combined, isParam, bodyAfter, bindAll, enter, enterAgain, openFunction, openProcedure, define, defineCell}
-use Rattle.machine.specs.Machine.{onBit, args, allArgs, ifE, andE, orE, operatorE, callE, applyE, exprBy, constC, echoC, setC, blockC, ifC, callC, round, rounds, cmdBy, cmdIn, cmds, step, bottom, evaluators, blockAt}
+use Rattle.machine.specs.Leaves.{codeIn, jumpIn, jumpFrom, bindingBehind, walk, boundTo, addressOf, cellValue, readThrough, nameValue, computedBy, negated, combined, elementOf, elementValue, lengthValue, setElement, isParam, bodyAfter, bindAll, enter, enterAgain, openFunction, openProcedure, define, defineCell, allocate}
+use Rattle.machine.specs.Machine.{onBit, args, allArgs, ifE, andE, orE, operatorE, callE, applyE, allocE, nthE, lenE, vsetE, exprBy, constC, echoC, setC, blockC, ifC, callC, round, rounds, cmdBy, cmdIn, cmds, step, bottom, evaluators, blockAt}
 use Rattle.machine.specs.Shown.{fresh, program, shown}
 
 abbrev tree-of : Result Block → List ℕ
@@ -55,8 +55,17 @@ scripts =
     case "[VAR x bool; ECHO (if (and false x) 1 (div -7 2))]" (limited 100 20 4 1 1) (ends done 8 1 1 (negsuc 3 ∷ [])) ∷
     case "[ECHO (mul 3037000499 3037000499); ECHO (sub -9223372036854775807 1); ECHO (div (sub -9223372036854775807 1) -1)]" (limited 100 20 4 1 4)
     (ends (stopped (error RANGE) 75) 14 0 0 (pos 9223372030926249001 ∷ negsuc 9223372036854775807 ∷ [])) ∷
+    case "[CONST m (vec (vec int)) (alloc (vec int) 2); CONST r (vec (vec int)) (vset m 1 (vset (alloc int 3) 2 8)); ECHO (nth (nth m 1) 2); ECHO (len (nth m 1))]"
+    (limited 100 20 4 5 4) (ends done 23 2 5 (pos 8 ∷ pos 3 ∷ [])) ∷
+    case "[FUN REC sum int [b:(vec int), i:int] (if (lt i 0) 0 (add (nth b i) (sum b (sub i 1)))); CONST a (vec int) (vset (vset (alloc int 2) 0 30) 1 12); ECHO (sum a 1)]"
+    (limited 100 20 11 2 4) (ends done 48 11 2 (pos 42 ∷ [])) ∷
+    case "[VAR x int; ECHO (len (alloc int 4)); ECHO (len (alloc int 2))]" (limited 100 20 4 6 4) (ends (stopped (limit CELLS) 48) 9 1 5 (pos 4 ∷ [])) ∷
+    case "[ECHO (len (alloc int -1))]" (limited 100 20 4 0 4) (ends (stopped (error SIZE) 11) 4 0 0 []) ∷
+    case "[ECHO (nth (alloc int 2) -1)]" (limited 100 20 4 6 4) (ends (stopped (error INDEX) 6) 5 0 2 []) ∷
+    case "[ECHO (len (vset (alloc int 2) 2 0))]" (limited 100 20 4 6 4) (ends (stopped (error INDEX) 11) 7 0 2 []) ∷
+    case "[ECHO (nth (alloc int 2) 1)]" (limited 100 20 4 6 4) (ends (stopped (error UNSET) 6) 5 0 2 []) ∷
     []
 
 scripts-shown : AllShown scripts
-unfolding read wordsFrom parse add-leaf add-fork link set-sib retype descent past deep table enc size first shapeType shapeTypes shapeArg shapeArgs shapeArgP shapeArgsP shapeExpr shapeExprs shapeExprP shapeExprsP shapeCmds shapeDef shapeStat shapeBlock meaning nodeAt numberAt pick rowAfter rowAt putRow bindingAt putBinding closureWord nodeOf envOf andThen guard codeOver levelIn operatorAt codeFor after ownOf entry rowCodes codesOf codeIn jumpIn jumpFrom bindingBehind walk boundTo addressOf readThrough nameValue computedBy negated combined isParam bodyAfter bindAll enter enterAgain openFunction openProcedure define defineCell onBit args allArgs ifE andE orE operatorE callE applyE exprBy constC echoC setC blockC ifC callC round rounds cmdBy cmdIn cmds step bottom evaluators blockAt program
-scripts-shown = (refl, (refl, (refl, (refl, (refl, (refl, (refl, (refl, (refl, tt)))))))))
+unfolding read wordsFrom parse add-leaf add-fork link set-sib retype descent past deep table enc size first shapeType shapeTypes shapeArg shapeArgs shapeArgP shapeArgsP shapeExpr shapeExprs shapeExprP shapeExprsP shapeCmds shapeDef shapeStat shapeBlock meaning nodeAt numberAt pick rowAfter rowAt putRow putRows bindingAt putBinding closureWord nodeOf envOf andThen guard codeOver levelIn operatorAt codeFor after ownOf entry rowCodes codesOf codeIn jumpIn jumpFrom bindingBehind walk boundTo addressOf cellValue readThrough nameValue computedBy negated combined elementOf elementValue lengthValue setElement isParam bodyAfter bindAll enter enterAgain openFunction openProcedure define defineCell allocate onBit args allArgs ifE andE orE operatorE callE applyE allocE nthE lenE vsetE exprBy constC echoC setC blockC ifC callC round rounds cmdBy cmdIn cmds step bottom evaluators blockAt program
+scripts-shown = (refl, (refl, (refl, (refl, (refl, (refl, (refl, (refl, (refl, (refl, (refl, (refl, (refl, (refl, (refl, (refl, tt))))))))))))))))

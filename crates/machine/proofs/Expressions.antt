@@ -10,18 +10,18 @@ use lib.Dec.{T, eqb, eqb→eq}
 use lib.ListN.{length}
 use mir.Syntax.{w64}
 use mir.Val.{ofZ}
-use Rattle.language.specs.Syntax.{Expr, if-expr, and, or, Exprs, ExprP}
+use Rattle.language.specs.Syntax.{Expr, if-expr, and, or, alloc, nth-expr, len, vset, Exprs, ExprP, TypeTree}
 use Rattle.language.specs.Names.{Op, operator, head-operator}
 use Rattle.language.specs.Rules.{Val, inZ, Env, State, Outcome, ok, bind, Level, exprs, args, apply-rule, expr-rule, arg-rule, open-function}
 use Rattle.nodes.specs.Names.{meaningNo}
 use Rattle.nodes.specs.Written.{Numeral, numberAt}
-use Rattle.nodes.specs.Trees.{kind, place, child, next, AtE, at-num, at-name, at-if, at-and, at-or, at-app, at-abs, AtEs, at-one-expr, at-more-exprs, AtA, at-val, at-adr, AtAs, at-no-arg, at-more-args}
+use Rattle.nodes.specs.Trees.{kind, place, child, next, AtE, at-num, at-name, at-if, at-and, at-or, at-app, at-abs, at-alloc, at-nth, at-len, at-vset, AtEs, at-one-expr, at-more-exprs, AtA, at-val, at-adr, AtAs, at-no-arg, at-more-args}
 use Rattle.nodes.proofs.Laws.{expr-there, exprs-there, arg-there}
 use Rattle.machine.specs.declared.Ending.the-variants.{Value}
 use Rattle.machine.specs.Entries.{pick, number-tag, done-tag, ring-rows}
 use Rattle.machine.specs.Codes.{operatorNo, CodedE, CodedEs, CodedA, CodedAs}
 use Rattle.machine.specs.State.{Tables, Ret, is, spend, push}
-use Rattle.machine.specs.Machine.{Evaluators, allArgs, ifE, andE, orE, operatorE, callE, applyE, exprBy}
+use Rattle.machine.specs.Machine.{Evaluators, allArgs, ifE, andE, orE, operatorE, callE, applyE, allocE, nthE, lenE, vsetE, exprBy}
 use Rattle.machine.specs.Machine as M
 use Rattle.machine.proofs.Entries.{row-own, row-other, child-small}
 use Rattle.machine.proofs.Relation.{Stage, run-of, slot, v-num, w-none, w-more, R, Grow, Sim, goes, IsVal, Some, Waiting, Here, Adeq, node, code, scope, InE, InEs, InAs}
@@ -31,6 +31,7 @@ use Rattle.machine.proofs.Closures.{function-value}
 use Rattle.machine.proofs.Enter.{after-slot, function-sim, sim-open}
 use Rattle.machine.proofs.Operate.{in-range-fits, number-val, unary-sim, binary-sim, more-stuck}
 use Rattle.machine.proofs.Names.{address-sim, name-sim, operator-number}
+use Rattle.machine.proofs.Blocks.{nth-sim, vset-sim, len-sim, alloc-sim}
 
 other-slot : (k top : ℕ) → k < top → top < k + ring-rows → slot k ≢ slot top
 other-slot k top h l = omega arith
@@ -178,6 +179,35 @@ module _ {g : Stage} where
     apply-sim i none f a x = sim-yes _ _ tt (call-sim i f a x)
     apply-sim i (some o) {f = e} f a x = sim-no _ _ (operator-number o) (operator-sim i o e (a .at) (a .coded) x)
 
+    -- blocks of cells
+
+    alloc-expr : (i : ℕ) (y : TypeTree) {a : Expr} {ρ : Env} {env sp : ℕ} {s : State} {m : Tables} → InE g (scope ρ) (next g.script (child g.script i)) a → Here g ρ env s m →
+        Sim g (IsVal g) sp m (expr-rule g.limits l (alloc (place g.script i) y a) ρ s) (allocE (run-of g) S env (slot sp) (node g i) m)
+    unfolding allocE
+    alloc-expr i y a x = sim-bind (h .onE a x) λ u s₁ t z m₁ v r₁ gr. alloc-sim _ (v .it) r₁
+
+    nth-of : (i : ℕ) {a b : Expr} {ρ : Env} {env sp : ℕ} {s : State} {m : Tables} → InE g (scope ρ) (child g.script i) a →
+        InE g (scope ρ) (next g.script (child g.script i)) b → Here g ρ env s m →
+        Sim g (IsVal g) sp m (expr-rule g.limits l (nth-expr (place g.script i) a b) ρ s) (nthE (run-of g) S env (slot sp) (node g i) m)
+    unfolding nthE
+    nth-of i a b x =
+        sim-bind (h .onE a x) λ u s₁ t y m₁ v r₁ gr. sim-bind (h .onE b (onward x r₁ gr)) λ u₂ s₂ t₂ y₂ m₂ v₂ r₂ gr₂.
+        nth-sim _ (keep (v .it) (gr₂ .more) (gr₂ .old)) (v₂ .it) r₂
+
+    len-of : (i : ℕ) {a : Expr} {ρ : Env} {env sp : ℕ} {s : State} {m : Tables} → InE g (scope ρ) (child g.script i) a → Here g ρ env s m →
+        Sim g (IsVal g) sp m (expr-rule g.limits l (len (place g.script i) a) ρ s) (lenE (run-of g) S env (slot sp) (node g i) m)
+    unfolding lenE
+    len-of i a x = sim-bind (h .onE a x) λ u s₁ t y m₁ v r₁ gr. len-sim _ (v .it) r₁
+
+    vset-of : (i : ℕ) {a b c : Expr} {ρ : Env} {env sp : ℕ} {s : State} {m : Tables} → InE g (scope ρ) (child g.script i) a →
+        InE g (scope ρ) (next g.script (child g.script i)) b → InE g (scope ρ) (next g.script (next g.script (child g.script i))) c → Here g ρ env s m →
+        Sim g (IsVal g) sp m (expr-rule g.limits l (vset (place g.script i) a b c) ρ s) (vsetE (run-of g) S env (slot sp) (node g i) m)
+    unfolding vsetE
+    vset-of i a b c x =
+        sim-bind (h .onE a x) λ u s₁ t y m₁ v r₁ gr. sim-bind (h .onE b (onward x r₁ gr)) λ u₂ s₂ t₂ y₂ m₂ v₂ r₂ gr₂.
+        sim-bind (h .onE c (onward (onward x r₁ gr) r₂ gr₂)) λ u₃ s₃ t₃ y₃ m₃ v₃ r₃ gr₃.
+        vset-sim _ (keep (keep (v .it) (gr₂ .more) (gr₂ .old)) (gr₃ .more) (gr₃ .old)) (keep (v₂ .it) (gr₃ .more) (gr₃ .old)) (v₃ .it) r₃
+
     number-sim : (i : ℕ) {ρ : Env} {env sp : ℕ} {s : State} {m : Tables} → Numeral (g.script .text) (place g.script i) →
         code g i ≡ ofZ w64 (numberAt (g.script .text) (place g.script i)) → Here g ρ env s m →
         Sim g (IsVal g) sp m (ok (inZ (numberAt (g.script .text) (place g.script i))) s) (is (Value number-tag (code g i)) m)
@@ -203,6 +233,11 @@ module _ {g : Stage} where
     expr-sim (at-abs {i = i} {j = j} k ps a z) q x =
         by-kind 24 _ _ (k .kind-is)
         (goes (function-value (x .names′) (x .st) _ (child-small (g.script .tree) i) ps (record { at = a; coded = q j ps })) (x .st) grow-self)
+    expr-sim (at-alloc {t = y} k t a z) q x = by-kind 27 _ _ (k .kind-is) (alloc-expr _ y (record { at = a; coded = q }) x)
+    expr-sim (at-nth k a b z) q x = by-kind 28 _ _ (k .kind-is) (nth-of _ (record { at = a; coded = q .0 }) (record { at = b; coded = q .1 }) x)
+    expr-sim (at-len k a z) q x = by-kind 29 _ _ (k .kind-is) (len-of _ (record { at = a; coded = q }) x)
+    expr-sim (at-vset k a b c z) q x =
+        by-kind 30 _ _ (k .kind-is) (vset-of _ (record { at = a; coded = q .0 }) (record { at = b; coded = q .1 }) (record { at = c; coded = q .2 }) x)
 
     pub arg-sim : {i : ℕ} {a : ExprP} {ρ : Env} {env sp : ℕ} {s : State} {m : Tables} → AtA g.script i a → CodedA g.script g.codes (scope ρ) i a → Here g ρ env s m →
         Sim g (IsVal g) sp m (arg-rule g.limits l a ρ s) (exprBy (run-of g) (kind g.script i) (code g i) S env (slot sp) (node g i) m)

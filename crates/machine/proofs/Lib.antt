@@ -11,6 +11,7 @@ pub mod States
 pub mod Enter
 pub mod Operate
 pub mod Names
+pub mod Blocks
 pub mod Rounds
 pub mod Closures
 pub mod Expressions

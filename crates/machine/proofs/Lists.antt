@@ -2,13 +2,14 @@
 use mathlib.Core.Path.{_≡_, refl, sym, ap, _∙_}
 use mathlib.Core.Logic.{_≢_, ⊎-elim}
 use Prim.Native.Nat.{ℕ, zero, suc, _+_, _≤_, _<_}
+use native.Mathlib.Nat.{not-suc-le-zero}
 use native.Mathlib.Omega.{arith}
 use mathlib.Core.Bool.{Bool, true, false}
 use mathlib.Core.List.{List, [], _∷_, _++_, append-assoc}
 use mathlib.Core.Option.{Option, none, some, Option·none-ne-some, Option·some-injective}
 use lib.Dec.{T, ltb, leb, leb→le, le→leb, ltb→lt, lt→ltb, leb·zero, leb·suc-zero, leb·suc-suc}
 use lib.IntN.{ℤ, pos}
-use lib.ListN.{length, getD, set, drop, length-append}
+use lib.ListN.{length, getD, set, drop, replicate, length-append}
 use lib.Seq.{drop-cons, set-append-seam}
 use Rattle.language.specs.Rules.{Val, nth, behind, store}
 use Rattle.nodes.proofs.Links.{below-or-not}
@@ -28,20 +29,25 @@ asks-entry (x ∷ l) (suc a) = rw (leb·suc-suc (suc a) (length l)) (asks-entry 
 pub asks-nth : {A : Type 0} (l : List A) (a n : ℕ) → length l ≡ n → Asks (λ c. nth l a ≡ some c) (nth l a) (ltb a n)
 asks-nth l a n h = rw (← h) (asks-entry l a)
 
--- an entry of a list with one more at its end
-pub data Snoc {A : Type 0} (l : List A) (o : A) (a : ℕ) (c : A) : Type 0 where
-  early : nth l a ≡ some c → a ≢ length l → Snoc l o a c
-  late : a ≡ length l → o ≡ c → Snoc l o a c
+-- an entry of a list with n more at its end, all the same
+pub data Filled {A : Type 0} (l : List A) (n : ℕ) (o : A) (a : ℕ) (c : A) : Type 0 where
+  early : nth l a ≡ some c → a < length l → Filled l n o a c
+  late : length l ≤ a → a < n + length l → o ≡ c → Filled l n o a c
 
-snoc-more : {A : Type 0} {l : List A} {o x : A} {a : ℕ} {c : A} → Snoc l o a c → Snoc (x ∷ l) o (suc a) c
-snoc-more (early h n) = early h (omega arith)
-snoc-more (late e h) = late (ap suc e) h
+filled-more : {A : Type 0} {l : List A} {n : ℕ} {o x : A} {a : ℕ} {c : A} → Filled l n o a c → Filled (x ∷ l) n o (suc a) c
+filled-more (early h n) = early h (omega arith)
+filled-more (late h k e) = late (omega arith) (omega arith) e
 
-pub nth-snoc : {A : Type 0} (l : List A) (o : A) (a : ℕ) (c : A) → nth (l ++ o ∷ []) a ≡ some c → Snoc l o a c
-nth-snoc [] o zero c h = late refl (Option·some-injective _ _ h)
-nth-snoc [] o (suc a) c h = absurd (Option·none-ne-some _ h)
-nth-snoc (x ∷ l) o zero c h = early h (omega arith)
-nth-snoc (x ∷ l) o (suc a) c h = snoc-more (nth-snoc l o a c h)
+pub nth-filled : {A : Type 0} (l : List A) (n : ℕ) (o : A) (a : ℕ) (c : A) → nth (l ++ replicate n o) a ≡ some c → Filled l n o a c
+nth-filled [] zero o a c h = absurd (Option·none-ne-some _ h)
+nth-filled [] (suc n) o zero c h = late (omega arith) (omega arith) (Option·some-injective _ _ h)
+nth-filled [] (suc n) o (suc a) c h = go (nth-filled [] n o a c h)
+  where
+    go : Filled [] n o a c → Filled [] (suc n) o (suc a) c
+    go (early e k) = absurd (not-suc-le-zero k)
+    go (late k i e) = late (omega arith) (omega arith) e
+nth-filled (x ∷ l) n o zero c h = early h (omega arith)
+nth-filled (x ∷ l) n o (suc a) c h = filled-more (nth-filled l n o a c h)
 
 -- an entry of a list with one put in
 pub data Put {A : Type 0} (l : List A) (a : ℕ) (x : A) (b : ℕ) (c : A) : Type 0 where

@@ -10,7 +10,7 @@ use lib.Dec.{T, eqb, ltb, ltb→lt}
 use Rattle.language.specs.Bytes.{same-bytes}
 use Rattle.language.specs.Syntax.{Name}
 use Rattle.language.specs.Names.{Op, not, eq, lt, add, sub, mul, div, Meaning, literal, operator, free, meaning, unless-nine}
-use Rattle.language.specs.Rules.{Val, inA, Env, State, Outcome, ok, need, look, as-address, give-cell, read, name-rule}
+use Rattle.language.specs.Rules.{Val, inA, Env, State, Outcome, ok, need, look, nth, as-address, give-cell, read, name-rule}
 use Rattle.nodes.specs.Names.{meaningNo}
 use Rattle.machine.specs.declared.Row.{Row}
 use Rattle.machine.specs.declared.Ending.{Ending}
@@ -18,10 +18,10 @@ use Rattle.machine.specs.declared.Ending.the-variants.{Value, NoRule}
 use Rattle.machine.specs.declared.Ending.the-variants as E
 use Rattle.machine.specs.Entries.{pick, address-tag, unset-tag, first-free, most-steps}
 use Rattle.machine.specs.State.{Tables, Ret, is, andThen, ifValue}
-use Rattle.machine.specs.Leaves.{boundTo, addressOf, readThrough, nameValue, walk}
+use Rattle.machine.specs.Leaves.{boundTo, addressOf, cellValue, readThrough, nameValue, walk}
 use Rattle.machine.specs.Codes.{codeOver, levelIn, codeBy, Used}
 use Rattle.machine.proofs.Lists.{asks-nth}
-use Rattle.machine.proofs.Relation.{Stage, v-num, v-fun, v-rec, v-proc, v-proc-rec, v-adr, ValR, EnvR, Found, found, lost, CellR, c-unset, c-set, R, Sim, goes, stops, no-way, IsVal, Named, code, scope}
+use Rattle.machine.proofs.Relation.{Stage, v-num, v-fun, v-rec, v-proc, v-proc-rec, v-adr, v-block, ValR, EnvR, Found, found, lost, CellR, c-unset, c-set, R, Sim, goes, stops, no-way, IsVal, Named, code, scope}
 use Rattle.machine.proofs.Chain.{over-least, name-finds}
 use Rattle.machine.proofs.Agree.{grow-self, end-need}
 
@@ -93,6 +93,7 @@ module _ {g : Stage} where
     located p k′ (found (v-proc a b n)) s f = no-way s
     located p k′ (found (v-proc-rec a b n)) s f = no-way s
     located p k′ (found (v-adr {a = a})) s f = f a
+    located p k′ (found (v-block x)) s f = no-way s
 
     pub sim-address : {ρ : Env} {env q : ℕ} {y : Name} (p : ℕ) {s : State} {sp : ℕ} {m : Tables} {k : ℕ → Outcome B} (k′ : ℕ → ℕ → Tables → Ret) →
         Used g.script g.codes (scope ρ) q y → Named g ρ env m → R g s m → ((a : ℕ) → Sim g P sp m (k a) (k′ address-tag a m)) →
@@ -113,6 +114,7 @@ module _ {g : Stage} where
   found-address p (found (v-proc a b n)) s = no-way s
   found-address p (found (v-proc-rec a b n)) s = no-way s
   found-address p (found v-adr) s = goes v-adr s grow-self
+  found-address p (found (v-block x)) s = no-way s
 
   pub address-sim : {ρ : Env} {env q : ℕ} {y : Name} (p : ℕ) {s : State} {sp : ℕ} {m : Tables} → Used g.script g.codes (scope ρ) q y → Named g ρ env m → R g s m →
       Sim g (IsVal g) sp m (need (look ρ y) p s λ v. need (as-address v) p s λ a. ok (inA a) s)
@@ -129,6 +131,7 @@ module _ {g : Stage} where
   not-unset (v-proc a e n) h = h
   not-unset (v-proc-rec a e n) h = h
   not-unset v-adr h = h
+  not-unset (v-block x) h = h
 
   set-cell : (b : Bool) {u : Val} {t x : ℕ} (p : ℕ) {sp : ℕ} {s : State} {m : Tables} → (T b → ⊥) → IsVal g u t x m → R g s m →
       Sim g (IsVal g) sp m (ok u s) (is (pick b (λ _. E.Stop 27 p) λ _. Value t x) m)
@@ -142,6 +145,12 @@ module _ {g : Stage} where
   cell-sim p r c-unset = stops r
   cell-sim p r (c-set {t = t} u) = set-cell (eqb t unset-tag) p (not-unset u) u r
 
+  -- the cell a is asked for
+  pub held-sim : (p a : ℕ) {sp : ℕ} {s : State} {m : Tables} → R g s m →
+      Sim g (IsVal g) sp m (need (nth (s .cells) a) p s λ c. give-cell c p s) (is (cellValue (m .cells) (m .counts .cells) p a) m)
+  unfolding cellValue
+  held-sim p a {s = s} r = end-need p (asks-nth (s .cells) a _ (r .cells)) r λ c q. cell-sim p r (r .each a c q)
+
   read-sim : (p : ℕ) {t x sp : ℕ} {s : State} {m : Tables} {u : Val} → IsVal g u t x m → R g s m →
       Sim g (IsVal g) sp m (read u p s) (is (readThrough (m .cells) (m .counts .cells) p t x) m)
   unfolding readThrough pick
@@ -150,7 +159,8 @@ module _ {g : Stage} where
   read-sim p (v-rec a e n) r = goes (v-rec a e n) r grow-self
   read-sim p (v-proc a e n) r = goes (v-proc a e n) r grow-self
   read-sim p (v-proc-rec a e n) r = goes (v-proc-rec a e n) r grow-self
-  read-sim p {s = s} (v-adr {a = a}) r = end-need p (asks-nth (s .cells) a _ (r .cells)) r λ c q. cell-sim p r (r .each a c q)
+  read-sim p (v-adr {a = a}) r = held-sim p a r
+  read-sim p (v-block x) r = goes (v-block x) r grow-self
 
   free-sim : (p : ℕ) {sp : ℕ} {s : State} {m : Tables} {o : Option Val} {e : Ending} → Found g (m .bindings) (m .counts .bindings) o e → R g s m →
       Sim g (IsVal g) sp m (need o p s λ v. read v p s) (is (ifValue e λ t x. readThrough (m .cells) (m .counts .cells) p t x) m)

@@ -26,7 +26,7 @@ use Rattle.machine.specs.Entries.{pick, number-tag, row}
 use Rattle.machine.specs.State.{Tables, is}
 use Rattle.machine.specs.Leaves.{given, computedBy, negated, combined}
 use Rattle.machine.proofs.Lists.{Asks, asks-yes, asks-no}
-use Rattle.machine.proofs.Relation.{Stage, v-num, v-fun, v-rec, v-proc, v-proc-rec, v-adr, ValR, R, Sim, goes, stops, no-way, IsVal}
+use Rattle.machine.proofs.Relation.{Stage, v-num, v-fun, v-rec, v-proc, v-proc-rec, v-adr, v-block, ValR, R, Sim, goes, stops, no-way, IsVal}
 use Rattle.machine.proofs.Agree.{grow-self, no-bit, asks-num}
 
 -- ---- numbers that words hold
@@ -130,6 +130,7 @@ module _ {g : Stage} where
   one-negated p (v-proc q e n) r = no-way r
   one-negated p (v-proc-rec q e n) r = no-way r
   one-negated p v-adr r = no-way r
+  one-negated p (v-block x) r = no-way r
 
   -- ---- the operators of two numbers
 

@@ -10,7 +10,7 @@ use Rattle.language.specs.Syntax.{Name, ArgP, Expr, Exprs, ExprP, Def, Stat, Cm
 use Rattle.language.specs.Answers.{Stop, stop-number}
 use Rattle.language.specs.Types.{param-names}
 use Rattle.language.specs.Limits.{Limits}
-use Rattle.language.specs.Rules.{Val, inZ, inF, inFR, inP, inPR, inA, Env, empty, bound, State, stop, no-rule, Outcome, ok, halt, nth, Entered, Level, cmds}
+use Rattle.language.specs.Rules.{Val, inZ, inF, inFR, inP, inPR, inA, inB, Env, empty, bound, State, stop, no-rule, Outcome, ok, halt, nth, Entered, Level, cmds}
 use Rattle.nodes.specs.declared.Node.{Node}
 use Rattle.nodes.specs.Nodes.{nodeAt}
 use Rattle.nodes.specs.Trees.{Script, next, AtParams, AtE, AtEs, AtA, AtAs, AtCs, AtD, AtS, AtB}
@@ -18,7 +18,7 @@ use Rattle.machine.specs.declared.Row.{Row}
 use Rattle.machine.specs.declared.Ending.{Ending}
 use Rattle.machine.specs.declared.Ending.the-variants.{Value, NoRule}
 use Rattle.machine.specs.declared.Ending.the-variants as E
-use Rattle.machine.specs.Entries.{number-tag, function-tag, recursive-function-tag, procedure-tag, recursive-procedure-tag, address-tag, unset-tag, ring-rows, row, rowAt, binding, bindingAt, nodeOf, envOf}
+use Rattle.machine.specs.Entries.{number-tag, function-tag, recursive-function-tag, procedure-tag, recursive-procedure-tag, address-tag, unset-tag, block-tag, ring-rows, row, rowAt, binding, bindingAt, nodeOf, envOf, firstOf, lengthOf}
 use Rattle.machine.specs.Codes.{codeOver, extended, defined, CodedE, CodedEs, CodedA, CodedAs, CodedCs, CodedD, CodedS, CodedB}
 use Rattle.machine.specs.State.{Run, Tables, Ret, is}
 use Rattle.machine.specs.Machine.{Evaluators, cmdIn}
@@ -131,6 +131,7 @@ module _ (g : Stage) where
     v-proc-rec : {c x i : ℕ} {f : Name} {xs : List ArgP} {a : Block} {ρ : Env} → AtParams g.script (next g.script (nodeOf x)) xs i →
         InB (f ∷ extended (param-names xs) (scope ρ)) i a → Rep b c (names ρ (envOf x)) → Rep b c (value (inPR a f (param-names xs) ρ) recursive-procedure-tag x)
     v-adr : {c a : ℕ} → Rep b c (value (inA a) address-tag a)
+    v-block : {c : ℕ} (x : ℕ) → Rep b c (value (inB (firstOf x) (lengthOf x)) block-tag x)
     e-none : {c : ℕ} → Rep b c (names empty 0)
     e-bound : {c k t x l j : ℕ} {y : Name} {u : Val} {ρ ρ′ : Env} → suc k ≤ c → bindingAt b k ≡ binding (suc (codeOver (scope ρ))) t x l j →
         Rep b k (value u t x) → Rep b k (names ρ l) → Outer ρ′ ρ →

@@ -7,15 +7,15 @@ use native.Mathlib.Nat.{le-refl}
 use native.Mathlib.Omega.{arith}
 use lib.Dec.{ltb, ltb→lt, lt→ltb}
 use lib.IntN.{ℤ}
-use lib.ListN.{length, drop, length-append, set}
+use lib.ListN.{length, drop, replicate, length-append, length-replicate, set}
 use Rattle.language.specs.Answers.{FUEL, DEPTH, limit}
 use Rattle.language.specs.Rules.{Val, State, stop, Outcome, halt, within, take-unit, take-bindings, with-cells, put-out, enter, store}
 use Rattle.machine.specs.declared.Binding.{Binding}
-use Rattle.machine.specs.Entries.{unset-tag, ring-rows, rowAt, putRow, putBinding}
-use Rattle.machine.specs.State.{Tables, Ret, bind, newCell, putOut, push, guard}
+use Rattle.machine.specs.Entries.{unset-tag, ring-rows, rowAt, putRow, putRows, putBinding}
+use Rattle.machine.specs.State.{Tables, Ret, bind, newCells, putOut, push, guard}
 use Rattle.machine.specs.State as M
-use Rattle.machine.proofs.Entries.{row-length, row-beyond, row-own, row-other, binding-other}
-use Rattle.machine.proofs.Lists.{Snoc, early, late, nth-snoc, Put, here, there, Stored, one-more, length-put, unit-is}
+use Rattle.machine.proofs.Entries.{row-length, row-beyond, row-own, row-other, rows-length, rows-beyond, rows-before, rows-own, binding-other}
+use Rattle.machine.proofs.Lists.{Filled, early, late, nth-filled, Put, here, there, Stored, one-more, length-put, unit-is}
 use Rattle.machine.proofs.Relation.{Stage, Kept, Old, CellR, c-unset, c-set, R, Grow, Sim, stops, Spent, IsVal}
 use Rattle.machine.proofs.Agree.{kept-then, cell-keep, sim-yes, sim-no, sim-within, tighten}
 
@@ -109,17 +109,20 @@ module _ {g : Stage} where
         out n l e q w = ap (λ (k : List ℤ). set k n z) q ∙ ap (λ (j : ℕ). set (s .numbers ++ drop (length (s .numbers)) (g.old .output)) j z) (sym e)
             ∙ one-more (s .numbers) (g.old .output) z w
 
-    pub r-cell : m .counts .cells < g.limits .cells → R g (with-cells (s .cells ++ none ∷ []) s) (newCell m)
-    r-cell h =
+    pub r-cells : (n : ℕ) → n + m .counts .cells ≤ g.limits .cells → R g (with-cells (s .cells ++ replicate n none) s) (newCells n m)
+    r-cells n h =
         record {
           units = r .units;
           bindings = r .bindings;
           bindings-in = r .bindings-in;
           bindings-kept = r .bindings-kept;
-          cells = omega (arith, r .cells, length-append (s .cells) (none ∷ []));
+          cells = let e = length-append (s .cells) (replicate n none) in let f = length-replicate {A = Option Val} n none in omega (arith, r .cells, e, f);
           cells-in = h;
-          cells-kept = kept-row _ _ _ (r .cells-kept) (omega arith);
-          each = λ a c q. go a c (nth-snoc (s .cells) none a c q);
+          cells-kept = record {
+            long = rows-length unset-tag 0 n (m .cells) (m .counts .cells) ∙ r .cells-kept .long;
+            beyond = rows-beyond unset-tag 0 n (m .cells) (m .counts .cells) (2 * g.limits .cells) (omega arith) ∙ r .cells-kept .beyond;
+          };
+          each = λ a c q. go a c (nth-filled (s .cells) n none a c q);
           numbers = r .numbers;
           numbers-in = r .numbers-in;
           output = r .output;
@@ -127,15 +130,13 @@ module _ {g : Stage} where
           roomy = r .roomy;
         }
       where
-        go : (a : ℕ) (c : Option Val) → Snoc (s .cells) none a c →
-            CellR g (m .bindings) (m .counts .bindings) c (rowAt (putRow (m .cells) (m .counts .cells) unset-tag 0) a)
-        go a c (early q n) = rw (row-other (m .cells) (m .counts .cells) unset-tag 0 a (omega (arith, r .cells))) (r .each a c q)
-        go a c (late e q) =
+        go : (a : ℕ) (c : Option Val) → Filled (s .cells) n none a c →
+            CellR g (m .bindings) (m .counts .bindings) c (rowAt (putRows n (m .cells) (m .counts .cells) unset-tag 0) a)
+        go a c (early q l) = rw (rows-before unset-tag 0 n (m .cells) (m .counts .cells) a (omega (arith, r .cells))) (r .each a c q)
+        go a c (late l k q) =
             rw (
-              e,
               ← q,
-              r .cells,
-              row-own (m .cells) (m .counts .cells) unset-tag 0 (omega (arith, r .roomy .few-cells, h))
+              rows-own unset-tag 0 n (m .cells) (m .counts .cells) a (omega (arith, r .cells)) (omega (arith, r .cells)) (omega (arith, r .roomy .few-cells, h))
                   (omega (arith, r .roomy .cells-fit, r .cells-kept .long)),
             ) c-unset
 

@@ -8,7 +8,7 @@ use lib.IntN.{ℤ}
 use lib.ListN.{length, getD, take, drop, replicate}
 use lib.Seq.{take-append-seam}
 use Rattle.language.specs.Syntax.{Block}
-use Rattle.language.specs.Answers.{FUEL, DEPTH, CELLS, BINDINGS, OUTPUT, RANGE, ZERO, UNSET, Stop, limit, error, stop-number, Answer, done, stopped}
+use Rattle.language.specs.Answers.{FUEL, DEPTH, CELLS, BINDINGS, OUTPUT, RANGE, ZERO, UNSET, SIZE, INDEX, Stop, limit, error, stop-number, Answer, done, stopped}
 use Rattle.language.specs.Typing.{Typable}
 use Rattle.language.specs.Limits.{Limits, Admitted}
 use Rattle.language.specs.Rules.{empty, State, no-rule, Outcome, ok, halt, run, start}
@@ -32,7 +32,7 @@ use Rattle.machine.proofs.Relation.{Stage, Kept, R, Sim, goes, stops, n
 use Rattle.machine.proofs.Agree.{kept-self}
 use Rattle.machine.proofs.Adequate.{adequate}
 
--- an ending that the rules know: a value, one of the eight stops, or no rule
+-- an ending that the rules know: a value, one of the ten stops, or no rule
 pub data Known : Ending → Type 0 where
   known-value : {t x : ℕ} → Known (Value t x)
   known-stop : (w : Stop) {p : ℕ} → Known (E.Stop (stop-number w) p)
@@ -58,6 +58,8 @@ stop-back (limit OUTPUT) = refl
 stop-back (error RANGE) = refl
 stop-back (error ZERO) = refl
 stop-back (error UNSET) = refl
+stop-back (error SIZE) = refl
+stop-back (error INDEX) = refl
 
 known-number : {n p : ℕ} → Known (E.Stop n p) → stop-number (stopBy n) ≡ n
 known-number (known-stop w) = ap stop-number (stop-back w)

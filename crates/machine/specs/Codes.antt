@@ -10,7 +10,7 @@ use lib.ListN.{getD}
 use mir.Syntax.{w64}
 use mir.Val.{ofZ}
 use Rattle.language.specs.Bytes.{same-bytes}
-use Rattle.language.specs.Syntax.{Name, at, Expr, num, name, if-expr, and, or, app, abs, Exprs, one-expr, more-exprs, ExprP, val, adr, Cmds, last, def-then, stat-then, Def, const, fun, fun-rec, var, proc, proc-rec, Stat, echo, set, if-stat, while, call, Block, block}
+use Rattle.language.specs.Syntax.{Name, at, Expr, num, name, if-expr, and, or, app, abs, alloc, nth-expr, len, vset, Exprs, one-expr, more-exprs, ExprP, val, adr, Cmds, last, def-then, stat-then, Def, const, fun, fun-rec, var, proc, proc-rec, Stat, echo, set, if-stat, while, call, Block, block}
 use Rattle.language.specs.Names.{Op, Meaning, literal, operator, free, meaning, operator-of, head-operator}
 use Rattle.language.specs.Numbers.{Computed, amount, fails, ranged}
 use Rattle.language.specs.Words.{nameAt}
@@ -83,6 +83,10 @@ module _ (g : Script) (codes : List ℕ) where
     CodedE Γ i (or p a b) = CodedE Γ (child g i) a × CodedE Γ (next g (child g i)) b
     CodedE Γ i (app p f es) = (getD codes i 0 ≡ operatorNo (head-operator f)) × CodedE Γ (child g i) f × CodedEs Γ (next g (child g i)) es
     CodedE Γ i (abs p ps e) = (j : ℕ) → AtParams g (child g i) (values ps) j → CodedE (extended (param-names (values ps)) Γ) j e
+    CodedE Γ i (alloc p t e) = CodedE Γ (next g (child g i)) e
+    CodedE Γ i (nth-expr p a b) = CodedE Γ (child g i) a × CodedE Γ (next g (child g i)) b
+    CodedE Γ i (len p a) = CodedE Γ (child g i) a
+    CodedE Γ i (vset p a b c) = CodedE Γ (child g i) a × CodedE Γ (next g (child g i)) b × CodedE Γ (next g (next g (child g i))) c
 
     pub CodedEs : List Name → ℕ → Exprs → Type 0
     CodedEs Γ i (one-expr e) = CodedE Γ i e

@@ -1,5 +1,5 @@
 -- The entries of the evaluator's tables: values, cells, waiting values and bindings, two words each, behind one pair of functions each.
-use Prim.Native.Nat.{ℕ, suc, _+_, _*_, _/_, _%_}
+use Prim.Native.Nat.{ℕ, zero, suc, _+_, _*_, _/_, _%_}
 use mathlib.Core.Bool.{Bool, true, false}
 use mathlib.Core.List.{List}
 use lib.Dec.{ltb}
@@ -42,6 +42,10 @@ done-tag = 7
 abbrev pub again-tag : ℕ
 again-tag = 8
 
+-- a block of cells
+abbrev pub block-tag : ℕ
+block-tag = 9
+
 -- the codes below this are the nine names'; this one is the code of a name that is not bound, and the bindings have those above it
 abbrev pub first-free : ℕ
 first-free = 10
@@ -72,6 +76,11 @@ rowAt l k = pick (ltb k most-rows) (λ _. row (getD l (2 * k) 0) (getD l (2 * k 
 unfoldable pub putRow : List ℕ → ℕ → (tag word : ℕ) → List ℕ
 putRow l k t x = pick (ltb k most-rows) (λ _. set (set l (2 * k) t) (2 * k + 1) x) λ _. l
 
+-- the same row n times, from the row k on
+unfoldable pub putRows : (n : ℕ) → List ℕ → ℕ → (tag word : ℕ) → List ℕ
+putRows zero l k t x = l
+putRows (suc n) l k t x = putRows n (putRow l k t x) (suc k) t x
+
 abbrev pub binding : (code tag word link jump : ℕ) → Binding
 binding c t x l j = record { code = c; tag = t; word = x; link = l; jump = j }
 
@@ -98,3 +107,17 @@ nodeOf x = x / 65536
 
 unfoldable pub envOf : ℕ → ℕ
 envOf x = x % 65536
+
+-- a block's word, in the same two halves: its first cell, and how many cells it has
+abbrev pub blockWord : (first length : ℕ) → ℕ
+blockWord a n = closureWord a n
+
+abbrev pub firstOf : ℕ → ℕ
+firstOf x = nodeOf x
+
+abbrev pub lengthOf : ℕ → ℕ
+lengthOf x = envOf x
+
+-- numbers below 0 are the words from here on
+abbrev pub first-below : ℕ
+first-below = 9223372036854775808

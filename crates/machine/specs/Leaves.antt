@@ -1,4 +1,4 @@
--- What the evaluator does without evaluating anything: names, numbers, cells, operators, and the entry of a call.
+-- What the evaluator does without evaluating anything: names, numbers, cells, operators, blocks of cells, and the entry of a call.
 use Prim.Native.Nat.{ℕ, zero, suc, _+_, _-_}
 use mathlib.Core.Bool.{Bool, true, cond}
 use mathlib.Core.List.{List}
@@ -14,8 +14,8 @@ use Rattle.machine.specs.declared.Row.{Row}
 use Rattle.machine.specs.declared.Binding.{Binding}
 use Rattle.machine.specs.declared.Ending.{Ending}
 use Rattle.machine.specs.declared.Ending.the-variants.{Value, Stop, NoRule}
-use Rattle.machine.specs.Entries.{pick, number-tag, function-tag, recursive-function-tag, procedure-tag, recursive-procedure-tag, address-tag, unset-tag, done-tag, first-free, most-steps, rowAfter, rowAt, binding, bindingAt, putBinding, nodeOf, envOf}
-use Rattle.machine.specs.State.{Run, Tables, Ret, is, andThen, ifValue, bind, newCell}
+use Rattle.machine.specs.Entries.{pick, number-tag, function-tag, recursive-function-tag, procedure-tag, recursive-procedure-tag, address-tag, unset-tag, done-tag, block-tag, first-free, first-below, most-steps, rowAfter, rowAt, binding, bindingAt, putBinding, nodeOf, envOf, blockWord, firstOf, lengthOf}
+use Rattle.machine.specs.State.{Run, Tables, Ret, is, andThen, ifValue, bind, newCells, store}
 
 -- ---- names
 
@@ -55,12 +55,14 @@ boundTo b c env = pick (ltb c first-free) (λ _. NoRule) λ _. walk b c most-ste
 unfoldable pub addressOf : (bindings : List ℕ) (c env : ℕ) → Ending
 addressOf b c env = ifValue (boundTo b c env) λ t a. pick (eqb t address-tag) (λ _. Value address-tag a) λ _. NoRule
 
--- what a name stands for that is bound to a value: an address is read through, of the first n cells
+-- what the cell a holds, of the first n cells, for the node at p
+unfoldable pub cellValue : (cells : List ℕ) (n p a : ℕ) → Ending
+cellValue c n p a =
+    pick (ltb a n) (λ _. pick (eqb (rowAt c a .tag) unset-tag) (λ _. Stop 27 p) λ _. Value (rowAt c a .tag) (rowAt c a .word)) λ _. NoRule
+
+-- what a name stands for that is bound to a value: an address is read through
 unfoldable pub readThrough : (cells : List ℕ) (n p tag word : ℕ) → Ending
-readThrough c n p t x =
-    pick (eqb t address-tag) (λ _.
-    pick (ltb x n) (λ _. pick (eqb (rowAt c x .tag) unset-tag) (λ _. Stop 27 p) λ _. Value (rowAt c x .tag) (rowAt c x .word)) λ _. NoRule)
-    λ _. Value t x
+readThrough c n p t x = pick (eqb t address-tag) (λ _. cellValue c n p x) λ _. Value t x
 
 -- the value of the name at p with the code c, with so many cells taken
 unfoldable pub nameValue : (bindings cells : List ℕ) (c p taken env : ℕ) → Ending
@@ -102,6 +104,35 @@ combined o p r s =
     pick (eqb (r .tag) number-tag) (λ _.
     pick (eqb (s .tag) number-tag) (λ _. given (computedBy o (toZ w64 (r .word)) (toZ w64 (s .word))) p) λ _. NoRule)
     λ _. NoRule
+
+-- ---- cells: what SET and vset do with a value
+
+-- it goes into the cell a, and e is the answer
+abbrev pub stored : (a tag word : ℕ) → (e : Ending) → Tables → Ret
+stored a t x e m = pick (ltb a (m .counts .cells)) (λ _. is e (store a t x m)) λ _. is NoRule m
+
+-- ---- blocks of cells: what nth, len and vset do with the values of their parts
+
+-- the cell of the element that the block r and the index s name; a number below 0 is past every length
+unfoldable pub elementOf : (p : ℕ) → (r s : Row) → Ending
+elementOf p r s =
+    pick (eqb (r .tag) block-tag) (λ _.
+    pick (eqb (s .tag) number-tag) (λ _.
+    pick (ltb (s .word) (lengthOf (r .word))) (λ _. Value address-tag (firstOf (r .word) + s .word)) λ _. Stop 29 p)
+    λ _. NoRule)
+    λ _. NoRule
+
+unfoldable pub elementValue : (cells : List ℕ) (n p : ℕ) → (r s : Row) → Ending
+elementValue c n p r s = ifValue (elementOf p r s) λ _ a. cellValue c n p a
+
+unfoldable pub lengthValue : Row → Ending
+lengthValue r = pick (eqb (r .tag) block-tag) (λ _. Value number-tag (lengthOf (r .word))) λ _. NoRule
+
+-- the value t x is put into an element, and the block is the answer
+unfoldable pub setElement : (p : ℕ) → (r s : Row) → (tag word : ℕ) → Tables → Ret
+setElement p r s t x m =
+    andThen (is (elementOf p r s) m) λ _ a m.
+    stored a t x (Value (r .tag) (r .word)) m
 
 -- ---- calls
 
@@ -168,4 +199,15 @@ module _ (g : Run) where
   -- the VAR at p: a cell, then a binding
   unfoldable pub defineCell : (p env : ℕ) → Tables → Ret
   defineCell p env m =
-      pick (ltb (m .counts .cells) (g.bounds .cells)) (λ _. define p address-tag (m .counts .cells) env (newCell m)) λ _. is (Stop 22 p) m
+      pick (ltb (m .counts .cells) (g.bounds .cells)) (λ _. define p address-tag (m .counts .cells) env (newCells 1 m)) λ _. is (Stop 22 p) m
+
+  -- the alloc at p makes as many cells as the value r says, all or none
+  unfoldable pub allocate : (p : ℕ) → (r : Row) → Tables → Ret
+  allocate p r m =
+      pick (eqb (r .tag) number-tag) (λ _.
+      pick (ltb (r .word) first-below) (λ _.
+      pick (leb (r .word + m .counts .cells) (g.bounds .cells))
+      (λ _. is (Value block-tag (blockWord (m .counts .cells) (r .word))) (newCells (r .word) m))
+      λ _. is (Stop 22 p) m)
+      λ _. is (Stop 28 p) m)
+      λ _. is NoRule m

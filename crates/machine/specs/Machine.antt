@@ -7,8 +7,8 @@ use Rattle.nodes.specs.declared.Node.{Node}
 use Rattle.nodes.specs.Nodes.{nodeAt}
 use Rattle.machine.specs.declared.Ending.the-variants.{Value, Stop, NoRule}
 use Rattle.machine.specs.Entries.{pick, number-tag, function-tag, recursive-function-tag, procedure-tag, recursive-procedure-tag, done-tag, again-tag, rowAfter, row, closureWord}
-use Rattle.machine.specs.State.{Run, codeAt, Tables, Ret, is, andThen, store, putOut, push, guard}
-use Rattle.machine.specs.Leaves.{boundTo, addressOf, nameValue, negated, combined, openFunction, openProcedure, define, defineCell}
+use Rattle.machine.specs.State.{Run, codeAt, Tables, Ret, is, andThen, putOut, push, guard}
+use Rattle.machine.specs.Leaves.{boundTo, addressOf, nameValue, negated, combined, stored, elementValue, lengthValue, setElement, openFunction, openProcedure, define, defineCell, allocate}
 
 -- expressions (and addresses) and blocks with some levels left: under an environment, with values waiting below sp, at a node
 pub record Evaluators : Type 0 where
@@ -73,6 +73,27 @@ module _ (g : Run) where
   unfoldable pub applyE : (o : ℕ) → Evaluators → (env sp : ℕ) → Node → Tables → Ret
   applyE o S env sp n m = pick (ltb o 3) (λ _. callE S env sp n m) λ _. operatorE o S env sp n m
 
+  -- blocks of cells: the parts do not wait in a table; behind an alloc's type stands its size
+  unfoldable pub allocE : Evaluators → (env sp : ℕ) → Node → Tables → Ret
+  allocE S env sp n m = andThen (S .expr env sp (nodeAt g.tree (n .child) .next) m) λ t x m₁. allocate g (n .place) (row t x) m₁
+
+  unfoldable pub nthE : Evaluators → (env sp : ℕ) → Node → Tables → Ret
+  nthE S env sp n m =
+      andThen (S .expr env sp (n .child) m) λ t x m₁.
+      andThen (S .expr env sp (nodeAt g.tree (n .child) .next) m₁) λ u y m₂.
+      is (elementValue (m₂ .cells) (m₂ .counts .cells) (n .place) (row t x) (row u y)) m₂
+
+  unfoldable pub lenE : Evaluators → (env sp : ℕ) → Node → Tables → Ret
+  lenE S env sp n m = andThen (S .expr env sp (n .child) m) λ t x m₁. is (lengthValue (row t x)) m₁
+
+  unfoldable pub vsetE : Evaluators → (env sp : ℕ) → Node → Tables → Ret
+  vsetE S env sp n m =
+      andThen (S .expr env sp (n .child) m) λ t x m₁.
+      let i = nodeAt g.tree (n .child) .next in
+      andThen (S .expr env sp i m₁) λ u y m₂.
+      andThen (S .expr env sp (nodeAt g.tree i .next) m₂) λ v z m₃.
+      setElement (n .place) (row t x) (row u y) v z m₃
+
   -- by the kind k and the code c of the node n
   unfoldable pub exprBy : (k c : ℕ) → Evaluators → (env sp : ℕ) → Node → Tables → Ret
   exprBy k c S env sp n m =
@@ -84,6 +105,10 @@ module _ (g : Run) where
       pick (eqb k 23) (λ _. applyE c S env sp n m) λ _.
       pick (eqb k 24) (λ _. is (Value function-tag (closureWord (n .child) env)) m) λ _.
       pick (eqb k 25) (λ _. is (addressOf (m .bindings) (codeAt g (n .child)) env) m) λ _.
+      pick (eqb k 27) (λ _. allocE S env sp n m) λ _.
+      pick (eqb k 28) (λ _. nthE S env sp n m) λ _.
+      pick (eqb k 29) (λ _. lenE S env sp n m) λ _.
+      pick (eqb k 30) (λ _. vsetE S env sp n m) λ _.
       is NoRule m
 
   -- ---- commands: the answer is the environment after them
@@ -104,7 +129,7 @@ module _ (g : Run) where
   setC S env sp n m =
       andThen (is (addressOf (m .bindings) (codeAt g (n .child)) env) m) λ _ a m.
       andThen (S .expr env sp (nodeAt g.tree (n .child) .next) m) λ t x m₁.
-      pick (ltb a (m₁ .counts .cells)) (λ _. is (Value done-tag env) (store a t x m₁)) λ _. is NoRule m₁
+      stored a t x (Value done-tag env) m₁
 
   -- a block within a command leaves the environment as it was
   unfoldable pub blockC : Evaluators → (env within sp i : ℕ) → Tables → Ret
@@ -225,6 +250,18 @@ module _ (g : Run) where
 
   abbrev pub callAt : (d env sp : ℕ) → Node → Tables → Ret
   callAt d env sp n m = callE (level d) env sp n m
+
+  abbrev pub allocAt : (d env sp : ℕ) → Node → Tables → Ret
+  allocAt d env sp n m = allocE (level d) env sp n m
+
+  abbrev pub nthAt : (d env sp : ℕ) → Node → Tables → Ret
+  nthAt d env sp n m = nthE (level d) env sp n m
+
+  abbrev pub lenAt : (d env sp : ℕ) → Node → Tables → Ret
+  lenAt d env sp n m = lenE (level d) env sp n m
+
+  abbrev pub vsetAt : (d env sp : ℕ) → Node → Tables → Ret
+  vsetAt d env sp n m = vsetE (level d) env sp n m
 
   abbrev pub constAt : (d env sp : ℕ) → Node → Tables → Ret
   constAt d env sp n m = constC (level d) env sp n m

@@ -5,7 +5,7 @@ use mathlib.Core.Option.{Option, none, some}
 use lib.Dec.{eqb}
 use lib.IntN.{ℤ}
 use lib.ListN.{take}
-use Rattle.language.specs.Answers.{FUEL, DEPTH, CELLS, BINDINGS, OUTPUT, RANGE, ZERO, UNSET, Stop, limit, error, Answer, done, stopped}
+use Rattle.language.specs.Answers.{FUEL, DEPTH, CELLS, BINDINGS, OUTPUT, RANGE, ZERO, UNSET, SIZE, INDEX, Stop, limit, error, Answer, done, stopped}
 use Rattle.language.specs.Limits.{Limits}
 use Rattle.language.specs.Outcome.{Report}
 use Rattle.language.specs.Promises.{Told}
@@ -39,7 +39,9 @@ stopBy n =
     pick (eqb n 24) (λ _. limit OUTPUT) λ _.
     pick (eqb n 25) (λ _. error RANGE) λ _.
     pick (eqb n 26) (λ _. error ZERO) λ _.
-    error UNSET
+    pick (eqb n 27) (λ _. error UNSET) λ _.
+    pick (eqb n 28) (λ _. error SIZE) λ _.
+    error INDEX
 
 abbrev pub answerOf : Ending → Option Answer
 answerOf (Value t x) = some done

@@ -9,7 +9,7 @@ use Rattle.machine.specs.declared.Bounds.{Bounds}
 use Rattle.machine.specs.declared.Evaluated.{Evaluated}
 use Rattle.machine.specs.declared.Ending.{Ending}
 use Rattle.machine.specs.declared.Ending.the-variants.{Value, Stop, NoRule}
-use Rattle.machine.specs.Entries.{pick, unset-tag, putRow}
+use Rattle.machine.specs.Entries.{pick, unset-tag, putRow, putRows}
 
 -- what a run does not change: the tree words, the nodes' codes, and how many bindings, cells and numbers there may be
 pub record Run : Type 0 where
@@ -90,13 +90,13 @@ bind n b m =
       waiting = m .waiting;
     }
 
--- one cell more, which is not set
-abbrev pub newCell : Tables → Tables
-newCell m =
+-- n cells more, which are not set
+abbrev pub newCells : ℕ → Tables → Tables
+newCells n m =
     record {
-      counts = record { units = m .counts .units; bindings = m .counts .bindings; cells = suc (m .counts .cells); numbers = m .counts .numbers };
+      counts = record { units = m .counts .units; bindings = m .counts .bindings; cells = n + m .counts .cells; numbers = m .counts .numbers };
       bindings = m .bindings;
-      cells = putRow (m .cells) (m .counts .cells) unset-tag 0;
+      cells = putRows n (m .cells) (m .counts .cells) unset-tag 0;
       output = m .output;
       waiting = m .waiting;
     }

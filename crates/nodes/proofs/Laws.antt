@@ -4,13 +4,14 @@ use mathlib.Core.Path.{_≡_, refl}
 use mathlib.Core.List.{List}
 use Rattle.language.specs.Syntax.{TypeTree, TypeTrees, ArgP, Expr, Exprs, ExprP, Cmds, Def, Stat}
 use Rattle.language.specs.Places.{place-expr, place-arg, place-param, place-def, place-stat}
-use Rattle.nodes.specs.Trees.{Script, place, child, AtType, at-bool, at-int, at-arrow, AtTypes, at-one-type, at-more-types, AtParam, at-val-param, at-var-param, AtParams, at-no-param, at-more-params, AtE, at-num, at-name, at-if, at-and, at-or, at-app, at-abs, AtEs, at-one-expr, at-more-exprs, AtA, at-val, at-adr, AtCs, at-last, at-def-then, at-stat-then, AtD, at-const, at-fun, at-fun-rec, at-var, at-proc, at-proc-rec, AtS, at-echo, at-set, at-if-stat, at-while, at-call}
+use Rattle.nodes.specs.Trees.{Script, place, child, AtType, at-bool, at-int, at-arrow, at-vec, AtTypes, at-one-type, at-more-types, AtParam, at-val-param, at-var-param, AtParams, at-no-param, at-more-params, AtE, at-num, at-name, at-if, at-and, at-or, at-app, at-abs, at-alloc, at-nth, at-len, at-vset, AtEs, at-one-expr, at-more-exprs, AtA, at-val, at-adr, AtCs, at-last, at-def-then, at-stat-then, AtD, at-const, at-fun, at-fun-rec, at-var, at-proc, at-proc-rec, AtS, at-echo, at-set, at-if-stat, at-while, at-call}
 
 module _ {g : Script} where
   pub type-there : {i : ℕ} {t : TypeTree} → AtType g i t → i ≡ 0 → ⊥
   type-there (at-bool k) = k .there
   type-there (at-int k) = k .there
   type-there (at-arrow k as′ a e) = k .there
+  type-there (at-vec k a e) = k .there
 
   pub types-there : {i j : ℕ} {ts : TypeTrees} → AtTypes g i ts j → i ≡ 0 → ⊥
   types-there (at-one-type a) = type-there a
@@ -38,6 +39,10 @@ module _ {g : Script} where
   expr-there (at-or k a b e) = k .there
   expr-there (at-app k f es) = k .there
   expr-there (at-abs k ps b e) = k .there
+  expr-there (at-alloc k t a e) = k .there
+  expr-there (at-nth k a b e) = k .there
+  expr-there (at-len k a e) = k .there
+  expr-there (at-vset k a b c e) = k .there
 
   pub exprs-there : {i : ℕ} {es : Exprs} → AtEs g i es → i ≡ 0 → ⊥
   exprs-there (at-one-expr a e) = expr-there a
@@ -79,6 +84,10 @@ module _ {g : Script} where
   expr-place (at-or k a b e) = refl
   expr-place (at-app k f es) = refl
   expr-place (at-abs k ps b e) = refl
+  expr-place (at-alloc k t a e) = refl
+  expr-place (at-nth k a b e) = refl
+  expr-place (at-len k a e) = refl
+  expr-place (at-vset k a b c e) = refl
 
   pub arg-place : {i : ℕ} {a : ExprP} → AtA g i a → place-arg a ≡ place g i
   arg-place (at-val a) = expr-place a

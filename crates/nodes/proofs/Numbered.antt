@@ -1,7 +1,7 @@
 -- The tree at a node whose number is known: what is laid from n on is the tree at node n.
 use Prim.Native.Nat.{ℕ}
 use mathlib.Core.Path.{_≡_, subst}
-use Rattle.language.specs.Syntax.{TypeTree, bool, int, arrow, ArgP, val-arg, var-arg, Expr, num, name, if-expr, and, or, app, abs, ExprP, val, adr, Cmds, last, def-then, stat-then, Def, const, fun, fun-rec, var, proc, proc-rec, Stat, echo, set, if-stat, while, call, Block, block}
+use Rattle.language.specs.Syntax.{TypeTree, bool, int, arrow, vec, ArgP, val-arg, var-arg, Expr, num, name, if-expr, and, or, app, abs, alloc, nth-expr, len, vset, ExprP, val, adr, Cmds, last, def-then, stat-then, Def, const, fun, fun-rec, var, proc, proc-rec, Stat, echo, set, if-stat, while, call, Block, block}
 use Rattle.language.specs.Table.{Forest, none, shapeType, shapeArgP, shapeExpr, shapeExprP, shapeCmds, shapeDef, shapeStat, shapeBlock}
 use Rattle.language.proofs.reading.Standing.{Stands, inArgP, inExpr, inExprP, inCmds, inDef, inStat, inBlock}
 use Rattle.nodes.specs.Forests.{Laid}
@@ -16,6 +16,7 @@ unfolding shapeType
 filled-type (bool p) s = tt
 filled-type (int p) s = tt
 filled-type (arrow p ts t) s = tt
+filled-type (vec p t) s = tt
 
 pub filled-param : (a : ArgP) (s : Forest) → Filled (shapeArgP a s)
 unfolding shapeArgP
@@ -31,6 +32,10 @@ filled-expr (and p a b) s = tt
 filled-expr (or p a b) s = tt
 filled-expr (app p f es) s = tt
 filled-expr (abs p ps e) s = tt
+filled-expr (alloc p t e) s = tt
+filled-expr (nth-expr p a b) s = tt
+filled-expr (len p a) s = tt
+filled-expr (vset p a b c) s = tt
 
 pub filled-arg : (a : ExprP) (s : Forest) → Filled (shapeExprP a s)
 unfolding shapeExprP

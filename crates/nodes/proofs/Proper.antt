@@ -1,4 +1,4 @@
--- Every node of a tree that the grammar reads has a kind from 1 to 25, the place of one of its words, and children where it is no leaf.
+-- Every node of a tree that the grammar reads has a kind from 1 to 30, the place of one of its words, and children where it is no leaf.
 use Prim.Native.Nat.{ℕ, _<_}
 use mathlib.Core.Path.{_≡_, refl}
 use mathlib.Core.Bool.{Bool, true, _&&_}
@@ -7,12 +7,12 @@ use lib.Dec.{leb}
 use Rattle.language.specs.Syntax.{Ident, Block}
 use Rattle.language.specs.Places.{place-ident}
 use Rattle.language.specs.Words.{Word, place-word}
-use Rattle.language.specs.Grammar.{Sort, BLOCK, CMDS, DEF, STAT, TYPE, TYPES, ARG, ARGS, ARGP, ARGSP, EXPR, EXPRS, EXPRP, EXPRSP, TreeOf, Reads, r-block, r-last, r-def-then, r-stat-then, r-const, r-fun, r-fun-rec, r-var, r-proc, r-proc-rec, r-bool, r-int, r-arrow, r-one-type, r-more-types, r-arg, r-one-arg, r-more-args, r-val-arg, r-var-arg, r-one-argp, r-more-argsp, r-echo, r-set, r-if-stat, r-while, r-call, r-one-exprp, r-more-exprsp, r-val, r-adr, r-num, r-name, r-if-expr, r-and, r-or, r-app, r-abs, r-one-expr, r-more-exprs}
+use Rattle.language.specs.Grammar.{Sort, BLOCK, CMDS, DEF, STAT, TYPE, TYPES, ARG, ARGS, ARGP, ARGSP, EXPR, EXPRS, EXPRP, EXPRSP, TreeOf, Reads, r-block, r-last, r-def-then, r-stat-then, r-const, r-fun, r-fun-rec, r-var, r-proc, r-proc-rec, r-bool, r-int, r-arrow, r-vec, r-one-type, r-more-types, r-arg, r-one-arg, r-more-args, r-val-arg, r-var-arg, r-one-argp, r-more-argsp, r-echo, r-set, r-if-stat, r-while, r-call, r-one-exprp, r-more-exprsp, r-val, r-adr, r-num, r-name, r-if-expr, r-and, r-or, r-app, r-abs, r-alloc, r-nth, r-len, r-vset, r-one-expr, r-more-exprs}
 use Rattle.language.specs.Table.{Forest, none, leaf, fork, ident, shapeType, shapeTypes, shapeArg, shapeArgs, shapeArgP, shapeArgsP, shapeExpr, shapeExprs, shapeExprP, shapeExprsP, shapeCmds, shapeDef, shapeStat, shapeBlock}
 use Rattle.language.proofs.reading.Payload.{All}
 
 abbrev pub isKind : ℕ → Bool
-isKind k = leb 1 k && leb k 25
+isKind k = leb 1 k && leb k 30
 
 -- it has a node
 abbrev pub Filled : Forest → Type 0
@@ -90,6 +90,7 @@ adds (r-proc-rec {p} {x = x} h k) a =
 adds (r-bool {p}) a = (adds-leaf 15 p (refl, a .0), a .1)
 adds (r-int {p}) a = (adds-leaf 16 p (refl, a .0), a .1)
 adds (r-arrow {p} h k) a = let u = adds h (a .1) in let v = adds k (u .1 .1) in (adds-fork 17 p (refl, a .0) (adds-both (u .0) (v .0)), v .1 .1)
+adds (r-vec {p} h) a = let u = adds h (a .1 .1) in (adds-fork 26 p (refl, a .0) (u .0), u .1 .1)
 adds (r-one-type h) a = adds h a
 adds (r-more-types h k) a = let u = adds h a in let v = adds k (u .1 .1) in (adds-both (u .0) (v .0), v .1)
 adds (r-arg {x = x} h) a = let u = adds h (a .1 .1) in (adds-fork 13 (place-ident x) (refl, a .0) (u .0), u .1)
@@ -119,6 +120,12 @@ adds (r-and {p} h k) a = let u = adds h (a .1 .1) in let v = adds k (u .1) in (a
 adds (r-or {p} h k) a = let u = adds h (a .1 .1) in let v = adds k (u .1) in (adds-fork 22 p (refl, a .0) (adds-both (u .0) (v .0)), v .1 .1)
 adds (r-app {p} h k) a = let u = adds h (a .1) in let v = adds k (u .1) in (adds-fork 23 p (refl, a .0) (adds-both (u .0) (v .0)), v .1 .1)
 adds (r-abs {p} h k) a = let u = adds h (a .1) in let v = adds k (u .1 .1) in (adds-fork 24 p (refl, a .0) (adds-both (u .0) (v .0)), v .1)
+adds (r-alloc {p} h k) a = let u = adds h (a .1 .1) in let v = adds k (u .1) in (adds-fork 27 p (refl, a .0) (adds-both (u .0) (v .0)), v .1 .1)
+adds (r-nth {p} h k) a = let u = adds h (a .1 .1) in let v = adds k (u .1) in (adds-fork 28 p (refl, a .0) (adds-both (u .0) (v .0)), v .1 .1)
+adds (r-len {p} h) a = let u = adds h (a .1 .1) in (adds-fork 29 p (refl, a .0) (u .0), u .1 .1)
+adds (r-vset {p} h k l) a =
+    let u = adds h (a .1 .1) in let v = adds k (u .1) in let w = adds l (v .1) in
+    (adds-fork 30 p (refl, a .0) (adds-both (u .0) (adds-both (v .0) (w .0))), w .1 .1)
 adds (r-one-expr h) a = adds h a
 adds (r-more-exprs h k) a = let u = adds h a in let v = adds k (u .1) in (adds-both (u .0) (v .0), v .1)
 

@@ -7,7 +7,7 @@ use native.Mathlib.Omega.{arith}
 use lib.ListN.{length}
 use mathlib.Core.Logic.{⊎-elim}
 use Rattle.language.specs.Syntax.{ArgP, Expr, Exprs, ExprP, Block}
-use Rattle.nodes.specs.Trees.{Script, next, AtParam, at-val-param, at-var-param, AtParams, at-no-param, at-more-params, AtE, at-num, at-name, at-if, at-and, at-or, at-app, at-abs, AtEs, at-one-expr, at-more-exprs, AtA, at-val, at-adr, AtAs, at-no-arg, at-more-args, ReadAs, count-exprs}
+use Rattle.nodes.specs.Trees.{Script, next, AtParam, at-val-param, at-var-param, AtParams, at-no-param, at-more-params, AtE, at-num, at-name, at-if, at-and, at-or, at-app, at-abs, at-alloc, at-nth, at-len, at-vset, AtEs, at-one-expr, at-more-exprs, AtA, at-val, at-adr, AtAs, at-no-arg, at-more-args, ReadAs, count-exprs}
 use Rattle.nodes.proofs.Laws.{param-child, params-there, exprs-there, arg-there}
 use Rattle.nodes.proofs.Program.{nodes-of, node-linked, node-number}
 
@@ -26,6 +26,10 @@ module _ {g : Script} {b : Block} (h : ReadAs g b) where
   expr-number (at-or k x y e) = node-number h _ 22 (k .kind-is) (omega arith)
   expr-number (at-app k f es) = node-number h _ 23 (k .kind-is) (omega arith)
   expr-number (at-abs k ps x e) = node-number h _ 24 (k .kind-is) (omega arith)
+  expr-number (at-alloc k t x e) = node-number h _ 27 (k .kind-is) (omega arith)
+  expr-number (at-nth k x y e) = node-number h _ 28 (k .kind-is) (omega arith)
+  expr-number (at-len k x e) = node-number h _ 29 (k .kind-is) (omega arith)
+  expr-number (at-vset k x y z e) = node-number h _ 30 (k .kind-is) (omega arith)
 
   pub arg-number : {i : ℕ} {a : ExprP} → AtA g i a → i < nodes-of b
   arg-number (at-val a) = expr-number a

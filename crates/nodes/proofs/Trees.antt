@@ -3,7 +3,7 @@ use Prim.Native.Nat.{ℕ, _+_, _<_}
 use mathlib.Core.Path.{_≡_, refl, sym, ap, subst}
 use mathlib.Core.List.{List, [], _∷_}
 use native.Mathlib.Omega.{arith}
-use Rattle.language.specs.Syntax.{Ident, at, TypeTree, bool, int, arrow, TypeTrees, one-type, more-types, Arg, arg, ArgP, val-arg, var-arg, Expr, num, name, if-expr, and, or, app, abs, Exprs, one-expr, more-exprs, ExprP, val, adr, Cmds, last, def-then, stat-then, Def, const, fun, fun-rec, var, proc, proc-rec, Stat, echo, set, if-stat, while, call, Block, block}
+use Rattle.language.specs.Syntax.{Ident, at, TypeTree, bool, int, arrow, vec, TypeTrees, one-type, more-types, Arg, arg, ArgP, val-arg, var-arg, Expr, num, name, if-expr, and, or, app, abs, alloc, nth-expr, len, vset, Exprs, one-expr, more-exprs, ExprP, val, adr, Cmds, last, def-then, stat-then, Def, const, fun, fun-rec, var, proc, proc-rec, Stat, echo, set, if-stat, while, call, Block, block}
 use Rattle.language.specs.Places.{place-ident}
 use Rattle.language.specs.Words.{Word, named}
 use Rattle.language.specs.Types.{values}
@@ -11,7 +11,7 @@ use Rattle.language.specs.Table.{Forest, none, leaf, fork, size, first, ident, 
 use Rattle.language.proofs.reading.Standing.{Stands, inArg, inArgs, inArgP, inArgsP, inExpr, inExprs, inExprP, inExprsP, inCmds, inDef, inStat, inBlock}
 use Rattle.language.proofs.reading.Payload.{name-stands}
 use Rattle.nodes.specs.Forests.{Laid, laid-leaf, laid-fork}
-use Rattle.nodes.specs.Trees.{Script, kind, place, child, next, Inner, Leaf, AtType, at-bool, at-int, at-arrow, AtTypes, at-one-type, at-more-types, AtParam, at-val-param, at-var-param, AtParams, at-no-param, at-more-params, AtE, at-num, at-name, at-if, at-and, at-or, at-app, at-abs, AtEs, at-one-expr, at-more-exprs, AtA, at-val, at-adr, AtAs, at-no-arg, at-more-args, AtCs, at-last, at-def-then, at-stat-then, AtD, at-const, at-fun, at-fun-rec, at-var, at-proc, at-proc-rec, AtS, at-echo, at-set, at-if-stat, at-while, at-call, AtB, at-block}
+use Rattle.nodes.specs.Trees.{Script, kind, place, child, next, Inner, Leaf, AtType, at-bool, at-int, at-arrow, at-vec, AtTypes, at-one-type, at-more-types, AtParam, at-val-param, at-var-param, AtParams, at-no-param, at-more-params, AtE, at-num, at-name, at-if, at-and, at-or, at-app, at-abs, at-alloc, at-nth, at-len, at-vset, AtEs, at-one-expr, at-more-exprs, AtA, at-val, at-adr, AtAs, at-no-arg, at-more-args, AtCs, at-last, at-def-then, at-stat-then, AtD, at-const, at-fun, at-fun-rec, at-var, at-proc, at-proc-rec, AtS, at-echo, at-set, at-if-stat, at-while, at-call, AtB, at-block}
 use Rattle.nodes.specs.Trees as T
 use Rattle.nodes.proofs.Written.{number-stands, numeral-stands}
 
@@ -58,6 +58,7 @@ module _ (g : Script) where
   rest-type (bool p) i f h = h .2
   rest-type (int p) i f h = h .2
   rest-type (arrow p ts t) i f h = h .3
+  rest-type (vec p t) i f h = h .3
 
   mutual
     unfolding shapeType
@@ -67,6 +68,7 @@ module _ (g : Script) where
     at-type (int p) i f h = rw (← h .1) (at-int (h .0))
     at-type (arrow p ts t) i f h =
         let r = at-types ts _ _ (h .2) in rw (← h .1) (at-arrow (h .0) (r .1) (at-type t _ _ (r .2)) (rest-type t _ _ (r .2)))
+    at-type (vec p t) i f h = rw (← h .1) (at-vec (h .0) (at-type t _ _ (h .2)) (rest-type t _ _ (h .2)))
 
     at-types : (ts : TypeTrees) (i : ℕ) (f : Forest) → Leads i (shapeTypes ts f) → (j : ℕ) × AtTypes g i ts j × Leads j f
     at-types (one-type t) i f h = (_, at-one-type (at-type t i f h), rest-type t i f h)
@@ -88,6 +90,10 @@ module _ (g : Script) where
   expr-no-param (or p a b) i f h = high-kind i 22 (omega arith) (h .0 .kind-is)
   expr-no-param (app p e es) i f h = high-kind i 23 (omega arith) (h .0 .kind-is)
   expr-no-param (abs p ps e) i f h = high-kind i 24 (omega arith) (h .0 .kind-is)
+  expr-no-param (alloc p t e) i f h = high-kind i 27 (omega arith) (h .0 .kind-is)
+  expr-no-param (nth-expr p a b) i f h = high-kind i 28 (omega arith) (h .0 .kind-is)
+  expr-no-param (len p a) i f h = high-kind i 29 (omega arith) (h .0 .kind-is)
+  expr-no-param (vset p a b c) i f h = high-kind i 30 (omega arith) (h .0 .kind-is)
 
   block-no-param : (b : Block) (i : ℕ) (f : Forest) → Leads i (shapeBlock b f) → NoParam i
   unfolding shapeCmds
@@ -117,6 +123,10 @@ module _ (g : Script) where
   rest-expr (or p a b) i f h = h .3
   rest-expr (app p e es) i f h = h .3
   rest-expr (abs p ps e) i f h = h .3
+  rest-expr (alloc p t e) i f h = h .3
+  rest-expr (nth-expr p a b) i f h = h .3
+  rest-expr (len p a) i f h = h .3
+  rest-expr (vset p a b c) i f h = h .3
 
   mutual
     unfolding shapeExpr inExpr
@@ -135,6 +145,14 @@ module _ (g : Script) where
     at-expr (abs p ps e) i f h s =
         let r = at-args ps _ _ (h .2) (s .0) (λ j. expr-no-param e j none) in
         rw (← h .1) (at-abs (h .0) (r .1) (at-expr e _ _ (r .2) (s .1)) (rest-expr e _ _ (r .2)))
+    at-expr (alloc p t e) i f h s =
+        let j = rest-type t _ _ (h .2) in rw (← h .1) (at-alloc (h .0) (at-type t _ _ (h .2)) (at-expr e _ _ j s) (rest-expr e _ _ j))
+    at-expr (nth-expr p a b) i f h s =
+        let j = rest-expr a _ _ (h .2) in rw (← h .1) (at-nth (h .0) (at-expr a _ _ (h .2) (s .0)) (at-expr b _ _ j (s .1)) (rest-expr b _ _ j))
+    at-expr (len p a) i f h s = rw (← h .1) (at-len (h .0) (at-expr a _ _ (h .2) s) (rest-expr a _ _ (h .2)))
+    at-expr (vset p a b c) i f h s =
+        let j = rest-expr a _ _ (h .2) in let k = rest-expr b _ _ j in
+        rw (← h .1) (at-vset (h .0) (at-expr a _ _ (h .2) (s .0)) (at-expr b _ _ j (s .1)) (at-expr c _ _ k (s .2)) (rest-expr c _ _ k))
 
     at-exprs : (es : Exprs) (i : ℕ) → Leads i (shapeExprs es none) → inExprs es (Stands g.text) → AtEs g i es
     at-exprs (one-expr e) i h s = at-one-expr (at-expr e i none h s) (rest-expr e i none h)

@@ -5,7 +5,7 @@ use Prim.Native.Nat.{ℕ, suc, _≤_}
 use mathlib.Core.Path.{_≡_}
 use mathlib.Core.List.{List, [], _∷_}
 use lib.ListN.{length, getD}
-use Rattle.language.specs.Syntax.{Ident, at, TypeTree, bool, int, arrow, TypeTrees, one-type, more-types, Arg, ArgP, val-arg, var-arg, Expr, num, name, if-expr, and, or, app, abs, Exprs, one-expr, more-exprs, ExprP, val, adr, Cmds, last, def-then, stat-then, Def, const, fun, fun-rec, var, proc, proc-rec, Stat, echo, set, if-stat, while, call, Block, block}
+use Rattle.language.specs.Syntax.{Ident, at, TypeTree, bool, int, arrow, vec, TypeTrees, one-type, more-types, Arg, ArgP, val-arg, var-arg, Expr, num, name, if-expr, and, or, app, abs, alloc, nth-expr, len, vset, Exprs, one-expr, more-exprs, ExprP, val, adr, Cmds, last, def-then, stat-then, Def, const, fun, fun-rec, var, proc, proc-rec, Stat, echo, set, if-stat, while, call, Block, block}
 use Rattle.language.specs.Answers.{fine}
 use Rattle.language.specs.Words.{nameAt}
 use Rattle.language.specs.Reading.{Reading}
@@ -52,6 +52,7 @@ module _ (g : Script) where
       at-bool : {i : ℕ} → Leaf i 15 → AtType i (bool (place i))
       at-int : {i : ℕ} → Leaf i 16 → AtType i (int (place i))
       at-arrow : {i j : ℕ} {ts : TypeTrees} {t : TypeTree} → Inner i 17 → AtTypes (child i) ts j → AtType j t → next j ≡ 0 → AtType i (arrow (place i) ts t)
+      at-vec : {i : ℕ} {t : TypeTree} → Inner i 26 → AtType (child i) t → next (child i) ≡ 0 → AtType i (vec (place i) t)
 
     -- TYPES, from the node i up to the node j
     pub data AtTypes : ℕ → TypeTrees → ℕ → Type 0 where
@@ -79,6 +80,12 @@ module _ (g : Script) where
       at-or : {i : ℕ} {a b : Expr} → Inner i 22 → AtE (child i) a → AtE (next (child i)) b → next (next (child i)) ≡ 0 → AtE i (or (place i) a b)
       at-app : {i : ℕ} {f : Expr} {es : Exprs} → Inner i 23 → AtE (child i) f → AtEs (next (child i)) es → AtE i (app (place i) f es)
       at-abs : {i j : ℕ} {ps : List Arg} {e : Expr} → Inner i 24 → AtParams (child i) (values ps) j → AtE j e → next j ≡ 0 → AtE i (abs (place i) ps e)
+      at-alloc : {i : ℕ} {t : TypeTree} {e : Expr} → Inner i 27 → AtType (child i) t → AtE (next (child i)) e → next (next (child i)) ≡ 0 →
+          AtE i (alloc (place i) t e)
+      at-nth : {i : ℕ} {a b : Expr} → Inner i 28 → AtE (child i) a → AtE (next (child i)) b → next (next (child i)) ≡ 0 → AtE i (nth-expr (place i) a b)
+      at-len : {i : ℕ} {a : Expr} → Inner i 29 → AtE (child i) a → next (child i) ≡ 0 → AtE i (len (place i) a)
+      at-vset : {i : ℕ} {a b c : Expr} → Inner i 30 → AtE (child i) a → AtE (next (child i)) b → AtE (next (next (child i))) c →
+          next (next (next (child i))) ≡ 0 → AtE i (vset (place i) a b c)
 
     -- EXPRS, from the node i to the end of the row
     pub data AtEs : ℕ → Exprs → Type 0 where
