@@ -7,7 +7,7 @@ use Rattle.language.proofs.reading.Machine.{cal, lev, Sym, Act, skip, leaf, for
 use Rattle.language.proofs.reading.Machine.{rules, pick, Entry, ent}
 use Rattle.language.proofs.reading.Machine.{sBlock, sBody, sTail, sSemi, sCN, sCT, sExpr, sFunH, sFN, sFT, sFL, sArg1, sArg0, sColon, sType, sVN}
 use Rattle.language.proofs.reading.Machine.{sProcH, sPN, sPL, sArgp1, sArgp0, sVarN, sSN, sIC, sIB, sWC, sKN, sK1, sK0, sParen, sParenP, sE3, sE2}
-use Rattle.language.proofs.reading.Machine.{sE1, sRP, sArgs1, sArgs0, sAN, sTs1, sTs0, sTR}
+use Rattle.language.proofs.reading.Machine.{sE1, sRP, sArgs1, sArgs0, sAN, sTs1, sTs0, sTR, sTP, sAT}
 
 -- the symbols, numbered
 abbrev pub sym-code : Sym → ℕ
@@ -52,12 +52,14 @@ sym-code sAN = 37
 sym-code sTs1 = 38
 sym-code sTs0 = 39
 sym-code sTR = 40
+sym-code sTP = 41
+sym-code sAT = 42
 
 abbrev pub syms : List Sym
 syms =
     sBlock ∷ sBody ∷ sTail ∷ sSemi ∷ sCN ∷ sCT ∷ sExpr ∷ sFunH ∷ sFN ∷ sFT ∷ sFL ∷ sArg1 ∷ sArg0 ∷ sColon
     ∷ sType ∷ sVN ∷ sProcH ∷ sPN ∷ sPL ∷ sArgp1 ∷ sArgp0 ∷ sVarN ∷ sSN ∷ sIC ∷ sIB ∷ sWC ∷ sKN ∷ sK1
-    ∷ sK0 ∷ sParen ∷ sParenP ∷ sE3 ∷ sE2 ∷ sE1 ∷ sRP ∷ sArgs1 ∷ sArgs0 ∷ sAN ∷ sTs1 ∷ sTs0 ∷ sTR ∷ []
+    ∷ sK0 ∷ sParen ∷ sParenP ∷ sE3 ∷ sE2 ∷ sE1 ∷ sRP ∷ sArgs1 ∷ sArgs0 ∷ sAN ∷ sTs1 ∷ sTs0 ∷ sTR ∷ sTP ∷ sAT ∷ []
 
 -- what a rule writes: nothing, a node without children, a node with children, another kind for the last node
 abbrev pub act-code : Act → ℕ

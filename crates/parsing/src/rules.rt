@@ -6,7 +6,7 @@ ghost use lib.ListN.{take, drop};
 ghost use Rattle.parsing.specs.Steps.{found, rule-in};
 
 // The rules of each symbol of the grammar's machine, the kind of word in the first byte: what such a word writes and pushes where the symbol stands.
-pub const RULES: [u32; 112] = [
+pub const RULES: [u32; 127] = [
     // a block
     0x01828101,
     // a command
@@ -29,7 +29,7 @@ pub const RULES: [u32; 112] = [
     // its type
     0x175E008D,
     0x1860008D,
-    0x03A2A68D,
+    0x03A2A98D,
     // an expression
     0x1B640001,
     0x1C660001,
@@ -43,7 +43,7 @@ pub const RULES: [u32; 112] = [
     // a function's type
     0x175E0095,
     0x18600095,
-    0x03A2A695,
+    0x03A2A995,
     // the bracket of its parameters
     0x0100CB01,
     // a parameter
@@ -56,7 +56,7 @@ pub const RULES: [u32; 112] = [
     // a type
     0x175E0001,
     0x18600001,
-    0x03A2A601,
+    0x03A2A901,
     // a variable's name
     0x1C66009D,
     // REC or a procedure's name
@@ -110,6 +110,10 @@ pub const RULES: [u32; 112] = [
     0x14E8DF01,
     0x15EAE001,
     0x16ECE001,
+    0x1EF6EA01,
+    0x1FF8E001,
+    0x20FAE101,
+    0x21FCDF01,
     // the same of an argument, which may be adr
     0x1B6400C7,
     0x1C6600C7,
@@ -119,6 +123,10 @@ pub const RULES: [u32; 112] = [
     0x14E8DF01,
     0x15EAE001,
     0x16ECE001,
+    0x1EF6EA01,
+    0x1FF8E001,
+    0x20FAE101,
+    0x21FCDF01,
     // three expressions
     0x1B6400C1,
     0x1C6600C1,
@@ -149,21 +157,30 @@ pub const RULES: [u32; 112] = [
     0x04000001,
     // adr's name
     0x1C6600C5,
-    // a type of a function type
+    // a further type of a function type
     0x175E00CF,
     0x186000CF,
-    0x03A2A6CF,
+    0x03A2A9CF,
     // after it: another, or the arrow
     0x0800E601,
     0x0900E801,
-    // its result
+    // its result, or what a vec is of
     0x175E00C5,
     0x186000C5,
-    0x03A2A6C5,
+    0x03A2A9C5,
+    // in a type after its parenthesis: a type, or vec
+    0x175E00CF,
+    0x186000CF,
+    0x03A2A9CF,
+    0x1DF4E801,
+    // an alloc's type
+    0x175E00C3,
+    0x186000C3,
+    0x03A2A9C3,
 ];
 
 // Where each symbol's rules start, and where the last one's end.
-pub const STARTS: [u8; 42] = [
+pub const STARTS: [u8; 44] = [
     0,
     1,
     10,
@@ -194,18 +211,20 @@ pub const STARTS: [u8; 42] = [
     56,
     60,
     66,
-    73,
-    81,
-    85,
+    77,
     89,
     93,
-    94,
-    98,
-    103,
-    104,
-    107,
-    109,
+    97,
+    101,
+    102,
+    106,
+    111,
     112,
+    115,
+    117,
+    120,
+    124,
+    127,
 ];
 
 // The rule for a kind of word, of those from one place of the table up to another: 0 where there is none.

@@ -8,13 +8,12 @@ use native.Mathlib.Numerals.{add-one}
 use native.Mathlib.Omega.{arith}
 use lib.Dec.{eqb, ltb}
 use borrow.Author.Tests.{ltb-true}
-use Rattle.language.specs.Words.{Mark, kLbr, kRbr, kLpar, kRpar, kSemi, kColon, kComma, kStar, kArrow, kCONST, kFUN, kREC, kVAR, kPROC, kECHO, kSET}
-use Rattle.language.specs.Words.{kIF, kWHILE, kCALL, kif, kand, kor, kbool, kint, kvar, kadr, Word, mark, number, named, place-word}
+use Rattle.language.specs.Words.{Word, place-word}
 use Rattle.language.proofs.reading.Machine.{code, tag, cal, lev, ctx, Ctx, down, Sym, Act, Push, kid, deep, same, body, back, call, Rule, rule, rules}
 use Rattle.language.proofs.reading.Machine.{pick, Entry, ent, opened, places, follow}
 use Rattle.language.proofs.reading.Machine.{sBlock, sBody, sTail, sSemi, sCN, sCT, sExpr, sFunH, sFN, sFT, sFL, sArg1, sArg0, sColon, sType, sVN}
 use Rattle.language.proofs.reading.Machine.{sProcH, sPN, sPL, sArgp1, sArgp0, sVarN, sSN, sIC, sIB, sWC, sKN, sK1, sK0, sParen, sParenP, sE3, sE2}
-use Rattle.language.proofs.reading.Machine.{sE1, sRP, sArgs1, sArgs0, sAN, sTs1, sTs0, sTR}
+use Rattle.language.proofs.reading.Machine.{sE1, sRP, sArgs1, sArgs0, sAN, sTs1, sTs0, sTR, sTP, sAT}
 use Rattle.language.proofs.reading.Machine
 use Rattle.scanning.specs.Scanning.{word-entry}
 use Rattle.parsing.specs.Codes
@@ -35,9 +34,9 @@ abbrev kinds-fit : List Rule → Bool
 kinds-fit [] = true
 kinds-fit (r ∷ rs) = ltb (rule-kind r) 32 && kinds-fit rs
 
--- a symbol's number is below 41, and the table has its rules there; they write kinds of nodes below 32
+-- a symbol's number is below 43, and the table has its rules there; they write kinds of nodes below 32
 record Known (X : Sym) : Type 0 where
-  small : sym-code X < 41
+  small : sym-code X < 43
   listed : rules-at (sym-code X) ≡ map packed-rule (rules X)
   kinds : kinds-fit (rules X) ≡ true
 
@@ -84,6 +83,8 @@ known sAN = record { small = omega arith; listed = refl; kinds = refl }
 known sTs1 = record { small = omega arith; listed = refl; kinds = refl }
 known sTs0 = record { small = omega arith; listed = refl; kinds = refl }
 known sTR = record { small = omega arith; listed = refl; kinds = refl }
+known sTP = record { small = omega arith; listed = refl; kinds = refl }
+known sAT = record { small = omega arith; listed = refl; kinds = refl }
 
 and-left : (a b : Bool) → (a && b) ≡ true → a ≡ true
 and-left true b e = refl

@@ -15,7 +15,7 @@ use Rattle.language.specs.Answers.{BYTE, NUMBER}
 use Rattle.language.specs.Numbers.{in-range}
 use Rattle.language.specs.Syntax.{at}
 use Rattle.language.specs.Words.{Mark, kLbr, kRbr, kLpar, kRpar, kSemi, kColon, kComma, kStar, kArrow, kCONST, kFUN, kREC, kVAR, kPROC, kECHO, kSET}
-use Rattle.language.specs.Words.{kIF, kWHILE, kCALL, kif, kand, kor, kbool, kint, kvar, kadr}
+use Rattle.language.specs.Words.{kIF, kWHILE, kCALL, kif, kand, kor, kbool, kint, kvar, kadr, kvec, kalloc, knth, klen, kvset}
 use Rattle.language.specs.Words.{mark, number, named, isSep, isLetter, isDigit, isPlain, stretch, symbols, keyWords, mark-of}
 use Rattle.language.specs.Words.{Front, gap, word, bad, spelled, decimal, numeral, minus, symbol, front, nameAt}
 use Rattle.language.proofs.reading.Machine.{code}
@@ -56,6 +56,11 @@ code-some kbool = tt
 code-some kint = tt
 code-some kvar = tt
 code-some kadr = tt
+code-some kvec = tt
+code-some kalloc = tt
+code-some knth = tt
+code-some klen = tt
+code-some kvset = tt
 
 zero-no-code : (m : Mark) (k : ℕ) → k ≡ code m → k ≡ 0 → ⊥
 zero-no-code m k e h = subst (λ (n : ℕ). T (leb 1 n)) (sym e ∙ h) (code-some m)

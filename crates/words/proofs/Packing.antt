@@ -1,17 +1,17 @@
 -- Words of bytes 1 to 255 are the same exactly where their numbers are: so a key word is found by its number.
 use mathlib.Core.Path.{_≡_, refl, sym, ap, subst, _∙_}
 use mathlib.Core.Bool.{Bool, true, false, _&&_, _||_, cond}
-use mathlib.Core.List.{List, [], _∷_, map, reverse, reverseAux, reverse-reverse}
+use mathlib.Core.List.{List, [], _∷_, reverse, reverseAux, reverse-reverse}
 use mathlib.Core.Option.{Option, some}
-use Prim.Native.Nat.{ℕ, suc, _+_, _*_, _≤_, _<_, min}
+use Prim.Native.Nat.{ℕ, _+_, _*_, _≤_, _<_, min}
 use native.Mathlib.Omega.{arith}
-use lib.Dec.{T, leb, eqb, leb→le, eqb→eq}
+use lib.Dec.{T, leb, eqb, leb→le}
 use borrow.Author.Tests.{leb-true, leb-false, eq-eqb, ne-eqb}
 use Rattle.language.specs.Bytes.{bytesOf, same-bytes}
 use Rattle.language.specs.Words.{Mark, Spelling, means, isLetter, isDigit, isPlain, stretch, keyWords, mark-of}
 use Rattle.language.proofs.reading.Machine.{code}
 use Rattle.language.proofs.typing.Names.{same-names}
-use Rattle.words.specs.Marks.{numbered, pack, cap, packed-spelling, packed-keys, place-in}
+use Rattle.words.specs.Marks.{numbered, pack, cap, number-packed}
 
 -- ---- tests
 both : (a b : Bool) → T (a && b) → T a × T b
@@ -69,14 +69,14 @@ same-packed {l} {r} p q = by (same-bytes r l) refl
     by false e =
         ne-eqb (pack 0 l) (pack 0 r) (λ z. subst T e (same-names r l .1 (sym (pack-one p q z))))
 
--- ---- a table of spellings: bytes 1 to 255, numbers below the cap, marks numbered one after the other from k on
+-- ---- a table of spellings: bytes 1 to 255, packed below the cap
 abbrev good : List ℕ → Bool
 good [] = true
 good (b ∷ s) = (leb 1 b && leb b 255) && good s
 
-abbrev tabled : ℕ → List Spelling → Bool
-tabled k [] = true
-tabled k (means t m ∷ ms) = (good (bytesOf t) && (leb (pack 0 (bytesOf t) + 1) cap && eqb (code m) k)) && tabled (suc k) ms
+abbrev tabled : List Spelling → Bool
+tabled [] = true
+tabled (means t m ∷ ms) = (good (bytesOf t) && leb (pack 0 (bytesOf t) + 1) cap) && tabled ms
 
 good-bytes : (l : List ℕ) → T (good l) → Bytes l
 good-bytes [] t = nil
@@ -97,20 +97,18 @@ eqb-kept n x h = by (leb n cap) refl
         let l = leb-false n cap e in
         ne-eqb (min n cap) x (λ q. omega arith) ∙ sym (ne-eqb n x (λ q. omega arith))
 
-found : (t : Bool) (m : Mark) (k n : ℕ) (o : Option Mark) → code m ≡ k → n ≡ numbered o → cond t k n ≡ numbered (cond t (some m) o)
-found true m k n o e f = sym e
-found false m k n o e f = f
+found : (t : Bool) (m : Mark) (n : ℕ) (o : Option Mark) → n ≡ numbered o → cond t (code m) n ≡ numbered (cond t (some m) o)
+found true m n o e = refl
+found false m n o e = e
 
-in-table : (w : List ℕ) → Bytes w → (ms : List Spelling) (k : ℕ) → T (tabled k ms)
-    → place-in k (min (pack 0 w) cap) (map packed-spelling ms) ≡ numbered (mark-of ms w)
-in-table w p [] k t = refl
-in-table w p (means s m ∷ ms) k t =
-    let h = both (good (bytesOf s) && (leb (pack 0 (bytesOf s) + 1) cap && eqb (code m) k)) (tabled (suc k) ms) t in
-    let g = both (good (bytesOf s)) (leb (pack 0 (bytesOf s) + 1) cap && eqb (code m) k) (h .0) in
-    let f = both (leb (pack 0 (bytesOf s) + 1) cap) (eqb (code m) k) (g .1) in
-    let below : pack 0 (bytesOf s) < cap = omega (arith, leb→le (pack 0 (bytesOf s) + 1) cap (f .0)) in
+in-table : (w : List ℕ) → Bytes w → (ms : List Spelling) → T (tabled ms) → number-packed (min (pack 0 w) cap) ms ≡ numbered (mark-of ms w)
+in-table w p [] t = refl
+in-table w p (means s m ∷ ms) t =
+    let h = both (good (bytesOf s) && leb (pack 0 (bytesOf s) + 1) cap) (tabled ms) t in
+    let g = both (good (bytesOf s)) (leb (pack 0 (bytesOf s) + 1) cap) (h .0) in
+    let below : pack 0 (bytesOf s) < cap = omega (arith, leb→le (pack 0 (bytesOf s) + 1) cap (g .1)) in
     rw (eqb-kept (pack 0 w) (pack 0 (bytesOf s)) below, same-packed p (good-bytes (bytesOf s) (g .0)))
-    (found (same-bytes (bytesOf s) w) m k _ (mark-of ms w) (eqb→eq (code m) k (f .1)) (in-table w p ms (suc k) (h .1)))
+    (found (same-bytes (bytesOf s) w) m _ (mark-of ms w) (in-table w p ms (h .1)))
 
 -- ---- letters and digits
 or-case : (u v : Bool) {P : Type 0} → (T u → P) → (T v → P) → T (u || v) → P
@@ -139,5 +137,5 @@ plain-bytes (b ∷ w) e = by (isPlain b) refl e (plain-bytes w)
     by false f e′ more = let z : _≡_ {A = ℕ} 0 1 = cc in absurd (omega arith)
 
 -- a word of letters and digits is a key word exactly where its number is in the table
-pub key-word : (w : List ℕ) → stretch isPlain w ≡ w → place-in 10 (min (pack 0 w) cap) packed-keys ≡ numbered (mark-of keyWords w)
-key-word w e = in-table w (plain-bytes w e) keyWords 10 tt
+pub key-word : (w : List ℕ) → stretch isPlain w ≡ w → number-packed (min (pack 0 w) cap) keyWords ≡ numbered (mark-of keyWords w)
+key-word w e = in-table w (plain-bytes w e) keyWords tt

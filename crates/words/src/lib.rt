@@ -6,12 +6,12 @@ ghost use Prim.Native.Nat.{_+_, _*_, _<_, min};
 ghost use lib.ListN.{length, drop, getD};
 ghost use Rattle.language.specs.Words.{isSep, isLetter, isDigit, isPlain, stretch, nameAt, symbols, keyWords, mark-of};
 ghost use Rattle.words.specs.Sorts.{passes};
-ghost use Rattle.words.specs.Marks.{numbered, pack, cap, place-in, packed-keys};
+ghost use Rattle.words.specs.Marks.{numbered, pack, cap, number-packed};
 ghost use Rattle.words.specs.Next.{foundFrom, amountFound, readFound};
 use amounts::Amount;
 use numerals::Read;
 
-// The next word of a text. A mark is a symbol or a key word by its number, 1 to 26, and `end` is the place past the word.
+// The next word of a text. A mark is a symbol or a key word by its number, and `end` is the place past the word.
 // A refusal is BYTE or NUMBER, by its number.
 pub enum Found {
     End,
@@ -162,7 +162,7 @@ fn packed(word: &[u8]) -> u64
 
 // The number of the key word that is packed so, 0 for none.
 fn key_packed(v: u64) -> u8
-    ensures { λ r. ⌜ r ≡ place-in 10 v packed-keys ⌝ }
+    ensures { λ r. ⌜ r ≡ number-packed v keyWords ⌝ }
 {
     match v {
         0x434F4E5354 => 10, // CONST
@@ -182,6 +182,11 @@ fn key_packed(v: u64) -> u8
         0x696E74 => 24, // int
         0x766172 => 25, // var
         0x616472 => 26, // adr
+        0x766563 => 29, // vec
+        0x616C6C6F63 => 30, // alloc
+        0x6E7468 => 31, // nth
+        0x6C656E => 32, // len
+        0x76736574 => 33, // vset
         _ => 0,
     }
 }

@@ -1,4 +1,4 @@
-use mathlib.Core.Path.{refl, sym}
+use mathlib.Core.Path.{refl}
 use borrow.Author.Tests.{ne-eqb}
 use Rattle.words.proofs.key_packed.Statement.{statement}
 use Rattle.words.proofs.key_packed.Tie as tie
@@ -55,8 +55,28 @@ returns-17 : tie.Need-returns-17
 returns-17 c = rw (c .match .keys17) refl
 
 returns-18 : tie.Need-returns-18
-returns-18 c =
+returns-18 c = rw (c .match .keys18) refl
+
+returns-19 : tie.Need-returns-19
+returns-19 c = rw (c .match .keys19) refl
+
+returns-20 : tie.Need-returns-20
+returns-20 c = rw (c .match .keys20) refl
+
+returns-21 : tie.Need-returns-21
+returns-21 c = rw (c .match .keys21) refl
+
+returns-22 : tie.Need-returns-22
+returns-22 c = rw (c .match .keys22) refl
+
+returns-23 : tie.Need-returns-23
+returns-23 c =
     simp (
+      ne-eqb _ _ (c .match .rest .0 .0 .0 .0 .0 .0 .0 .0 .0 .0 .0 .0 .0 .0 .0 .0 .0 .0 .0 .0 .0 .1),
+      ne-eqb _ _ (c .match .rest .0 .0 .0 .0 .0 .0 .0 .0 .0 .0 .0 .0 .0 .0 .0 .0 .0 .0 .0 .0 .1),
+      ne-eqb _ _ (c .match .rest .0 .0 .0 .0 .0 .0 .0 .0 .0 .0 .0 .0 .0 .0 .0 .0 .0 .0 .0 .1),
+      ne-eqb _ _ (c .match .rest .0 .0 .0 .0 .0 .0 .0 .0 .0 .0 .0 .0 .0 .0 .0 .0 .0 .0 .1),
+      ne-eqb _ _ (c .match .rest .0 .0 .0 .0 .0 .0 .0 .0 .0 .0 .0 .0 .0 .0 .0 .0 .0 .1),
       ne-eqb _ _ (c .match .rest .0 .0 .0 .0 .0 .0 .0 .0 .0 .0 .0 .0 .0 .0 .0 .0 .1),
       ne-eqb _ _ (c .match .rest .0 .0 .0 .0 .0 .0 .0 .0 .0 .0 .0 .0 .0 .0 .0 .1),
       ne-eqb _ _ (c .match .rest .0 .0 .0 .0 .0 .0 .0 .0 .0 .0 .0 .0 .0 .0 .1),
@@ -97,4 +117,9 @@ key-packed-spec =
     returns-15
     returns-16
     returns-17
-    returns-18)
+    returns-18
+    returns-19
+    returns-20
+    returns-21
+    returns-22
+    returns-23)
