@@ -21,12 +21,7 @@ stat-by-requires c κs = search needs
 returns-2 : tie.Need-returns-2
 unfolding ownBy
 returns-2 c =
-    rw (
-      ← c .before .before .before .kind-at .ensures,
-      le-ltb _ 8 (c .before .before .if1 .left),
-      lt-ltb _ 13 (c .before .if2 .taken),
-      c .stat-by .ensures,
-    )
+    rw (← c .before .before .before .kind-at .ensures, le-ltb _ 8 (c .before .before .if1 .left), lt-ltb _ 13 (c .before .if2 .taken), c .stat-by .ensures)
 
 param-by-requires : tie.Need-param-by-requires
 param-by-requires c κs = search needs
@@ -49,11 +44,27 @@ returns-4 : tie.Need-returns-4
 unfolding ownBy
 returns-4 c =
     rw (
-      ← c .before .before .before .before .kind-at .ensures,
-      le-ltb _ 8 (c .before .before .before .if1 .left),
-      le-ltb _ 13 (c .before .before .if2 .left),
-      le-ltb _ 18 (c .before .if3 .left),
+      ← c .before .before .before .before .before .kind-at .ensures,
+      le-ltb _ 8 (c .before .before .before .before .if1 .left),
+      le-ltb _ 13 (c .before .before .before .if2 .left),
+      le-ltb _ 18 (c .before .before .if3 .left),
+      lt-ltb _ 26 (c .before .if4 .taken),
       c .expr-by .ensures,
+    )
+
+vec-by-requires : tie.Need-vec-by-requires
+vec-by-requires c κs = search needs
+
+returns-5 : tie.Need-returns-5
+unfolding ownBy
+returns-5 c =
+    rw (
+      ← c .before .before .before .before .before .kind-at .ensures,
+      le-ltb _ 8 (c .before .before .before .before .if1 .left),
+      le-ltb _ 13 (c .before .before .before .if2 .left),
+      le-ltb _ 18 (c .before .before .if3 .left),
+      le-ltb _ 26 (c .before .if4 .left),
+      c .vec-by .ensures,
     )
 
 pub own-rule-spec : {M : Type 1} → statement M
@@ -68,4 +79,6 @@ own-rule-spec =
     param-by-requires
     returns-3
     expr-by-requires
-    returns-4)
+    returns-4
+    vec-by-requires
+    returns-5)
