@@ -2,25 +2,26 @@
 use mathlib.Core.Path.{_≡_, refl, sym, ap, _∙_}
 use mathlib.Core.Bool.{Bool, true, false, not}
 use mathlib.Core.List.{List}
-use mathlib.Core.Logic.{_⊎_, ⊎-elim}
+use mathlib.Core.Logic.{_⊎_}
 use Prim.Native.Nat.{ℕ, suc, _+_, _-_, _≤_, _<_}
 use native.Mathlib.Numerals.{add-one}
 use native.Mathlib.Omega.{arith}
 use denote.Enum.Declared.{tagOf}
 use lib.Dec.{leb}
-use borrow.Author.Tests.{ne-eqb, leb-true, leb-false, le-leb, lt-leb, lt-ltb, le-ltb, not-false}
+use borrow.Author.Tests.{eq-eqb, ne-eqb, leb-true, leb-false, le-leb, lt-leb, lt-ltb, le-ltb, not-false}
 use Rattle.nodes.specs.declared.Node.{Node}
 use Rattle.nodes.specs.Nodes.{nodeAt}
 use Rattle.machine.specs.declared.Row.{Row}
 use Rattle.machine.specs.declared.Counts.{Counts}
 use Rattle.machine.specs.declared.Ending.{Ending}
 use Rattle.machine.specs.declared.Ending.the-variants.{Value, Stop, NoRule}
-use Rattle.machine.specs.Entries.{pick, rowAfter, rowAt, putRow, putBinding, closureWord, nodeOf, envOf}
-use Rattle.machine.specs.State.{Run, Tables, tables, Ret, is, onValue, andThen, spend}
-use Rattle.machine.specs.Leaves.{bindingBehind, isParam, bodyAfter, bindAll, enter, enterAgain, openFunction, openProcedure, define, defineCell}
+use Rattle.machine.specs.Entries.{pick, rowAfter, rowAt, putRow, putRows, putBinding, closureWord, nodeOf, envOf}
+use Rattle.machine.specs.State.{Run, Tables, tables, is, andThen, spend}
+use Rattle.machine.specs.Leaves.{bindingBehind, isParam, bodyAfter, bindAll, enter, enterAgain, openFunction, openProcedure, define, defineCell, allocate}
 use Rattle.machine.proofs.Ending.{the-type}
 use Rattle.machine.proofs.Members.{no-unit, no-level, goes-in}
-use Rattle.entering.specs.Opening.{guarded, opened, withBindings, definitionBy, definition, opens}
+use Rattle.stores.proofs.Laws.{not-value}
+use Rattle.entering.specs.Opening.{guarded, opened, withBindings, withCells, definitionBy, definition, opens}
 
 -- ---- entries
 
@@ -60,6 +61,10 @@ room-some n taken limit h = by (leb n (limit - taken)) refl
 
 pub room-there : (r : Bool) (n limit : ℕ) → r ≡ leb n limit → not r ≡ false → n ≤ limit
 room-there r n limit r-is h = leb-true n limit (sym r-is ∙ not-false r h)
+
+-- what fits under a limit is a word
+pub room-word : (r : Bool) (n limit : ℕ) → r ≡ leb n limit → not r ≡ false → limit < 18446744073709551616 → n < 18446744073709551616
+room-word r n limit r-is h l = let q = room-there r n limit r-is h in omega (arith, q)
 
 -- ---- loops over parameters
 
@@ -102,13 +107,6 @@ module _ (tree w : List ℕ) (left at from next within : ℕ) (b : List ℕ) whe
   bind-ends none = rw none
 
 -- ---- calls
-
--- an answer that is no value is passed on
-pub not-value : (e : Ending) → (tagOf the-type e ≡ 1) ⊎ (tagOf the-type e ≡ 2) → (m : Tables) (k : ℕ → ℕ → Tables → Ret) →
-    is e m ≡ onValue e m k
-not-value (Value t x) h m k = ⊎-elim (λ q. absurd (omega arith)) (λ q. absurd (omega arith)) h
-not-value (Stop n p) h m k = refl
-not-value NoRule h m k = refl
 
 module _ (g : Run) (p n sp q : ℕ) (m : Tables) (e : Ending) (e-is : e ≡ bodyAfter g.tree n q) where
   module _ (env : ℕ) where
@@ -197,20 +195,35 @@ module _ (g : Run) (p env : ℕ) (m : Tables) where
     unfolding define pick
     define-full h = rw (le-ltb _ _ h)
 
-  pub cell-some : m .counts .cells < g.bounds .cells → (c : List ℕ) → c ≡ putRow (m .cells) (m .counts .cells) 6 0 →
-      define g p 5 (m .counts .cells) env
-      (tables
-      (record { units = m .counts .units; bindings = m .counts .bindings; cells = m .counts .cells + 1; numbers = m .counts .numbers })
-      (m .bindings)
-      c
-      (m .output)
-      (m .waiting)) ≡ defineCell g p env m
-  unfolding defineCell pick
-  cell-some h c c-is = rw (lt-ltb _ _ h, c-is, add-one (m .counts .cells))
+  pub cell-some : m .counts .cells < g.bounds .cells → (c : List ℕ) (k : Counts) → c ≡ putRow (m .cells) (m .counts .cells) 6 0 →
+      k ≡ withCells 1 (m .counts) → define g p 5 (m .counts .cells) env (tables k (m .bindings) c (m .output) (m .waiting)) ≡ defineCell g p env m
+  unfolding defineCell putRows pick
+  cell-some h c k c-is k-is = rw (lt-ltb _ _ h, c-is, k-is)
 
   pub cell-full : g.bounds .cells ≤ m .counts .cells → is (Stop 22 p) m ≡ defineCell g p env m
   unfolding defineCell pick
   cell-full h = rw (le-ltb _ _ h)
+
+module _ (g : Run) (p : ℕ) (size : Row) (m : Tables) where
+  pub allocate-none : (size .tag ≡ 0 → ⊥) → is NoRule m ≡ allocate g p size m
+  unfolding allocate pick
+  allocate-none h = rw (ne-eqb _ 0 h)
+
+  module _ (number : size .tag ≡ 0) where
+    pub allocate-below : 9223372036854775808 ≤ size .word → is (Stop 28 p) m ≡ allocate g p size m
+    unfolding allocate pick
+    allocate-below h = rw (eq-eqb _ 0 number, le-ltb _ _ h)
+
+    module _ (counts : size .word < 9223372036854775808) (r : Bool) (r-is : r ≡ leb (size .word + m .counts .cells) (g.bounds .cells)) where
+      pub allocate-full : r ≡ false → is (Stop 22 p) m ≡ allocate g p size m
+      unfolding allocate pick
+      allocate-full h = rw (eq-eqb _ 0 number, lt-ltb _ _ counts, ← r-is, h)
+
+      pub allocate-some : r ≡ true → (c : List ℕ) (word : ℕ) (k : Counts) → c ≡ putRows (size .word) (m .cells) (m .counts .cells) 6 0 →
+          word ≡ closureWord (m .counts .cells) (size .word) → k ≡ withCells (size .word) (m .counts) →
+          is (Value 9 word) (tables k (m .bindings) c (m .output) (m .waiting)) ≡ allocate g p size m
+      unfolding allocate pick
+      allocate-some h c word k c-is word-is k-is = rw (eq-eqb _ 0 number, lt-ltb _ _ counts, ← r-is, h, c-is, word-is, k-is)
 
 module _ (g : Run) (env : ℕ) (n : Node) (m : Tables) where
   pub definition-kind : (k : ℕ) → n .kind ≡ k → definitionBy g k env n m ≡ definition g env n m

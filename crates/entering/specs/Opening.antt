@@ -21,6 +21,9 @@ opened e b = record { env = e; bindings = b }
 abbrev pub withBindings : ℕ → Counts → Counts
 withBindings n c = record { units = c .units; bindings = n + c .bindings; cells = c .cells; numbers = c .numbers }
 
+abbrev pub withCells : ℕ → Counts → Counts
+withCells n c = record { units = c .units; bindings = c .bindings; cells = n + c .cells; numbers = c .numbers }
+
 -- a definition that evaluates nothing, by the kind k of the node n
 module _ (g : Run) where
   unfoldable pub definitionBy : (k env : ℕ) → Node → Tables → Ret

@@ -12,7 +12,7 @@ use Rattle.machine.specs.declared.Ending.{Ending}
 use Rattle.machine.specs.declared.Ending.the-variants.{Value}
 use Rattle.machine.specs.Entries.{pick}
 use Rattle.machine.specs.State.{Run, running, codeAt, Tables, Ret, is, onValue, andThen}
-use Rattle.machine.specs.Leaves.{addressOf, boundTo, define}
+use Rattle.machine.specs.Leaves.{addressOf, boundTo, stored, define}
 use Rattle.machine.specs.Machine.{Evaluators, onBit, constC, echoC, setC, blockC, ifC, callC, round, rounds, cmdBy, cmds, below, exprAt, blockAt, level, cmdAt}
 use Rattle.machine.specs.Machine.{whileAt, roundAt, constAt, echoAt, setAt, ifStatAt, callStatAt}
 use Rattle.machine.specs.Shown.{program}
@@ -20,8 +20,8 @@ use Rattle.machine.proofs.Ending.{the-type}
 use Rattle.machine.proofs.Members.{cmd-is, cmd-while}
 use Rattle.machine.proofs.Members.{cmds-go, rounds-go, block-is, while-is}
 use Rattle.entering.specs.Opening.{guarded, definitionBy, definition, opens}
-use Rattle.entering.proofs.Laws.{not-value}
-use Rattle.stores.specs.Choices.{isBit, branchOf, roundEnd, echoed, stored}
+use Rattle.stores.proofs.Laws.{not-value}
+use Rattle.stores.specs.Choices.{isBit, branchOf, roundEnd, echoed}
 use Rattle.running.specs.Parts.{innerC, applyV, applyAt, innerAt, limitsOf}
 use Rattle.running.proofs.Laws.{NotValue, passes, goes, any-value, guard-stops, guard-goes, guard-level, on-one, on-branch, no-round}
 
@@ -98,8 +98,8 @@ module _ (g : Run) (d env sp : ℕ) (m : Tables) (n : Node) where
         unfolding setC
         set-passes h = rw (← x-is, ← c-is, ← e-is, goes (is e m) k a target _, ← r-is) (passes r h _)
 
-        pub set-stores : (t v : ℕ) → r .ending ≡ Value t v → (q : Ret) → q ≡ stored a t v env (r .after) → q ≡ setAt g d env sp n m
-        unfolding setC stored
+        pub set-stores : (t v : ℕ) → r .ending ≡ Value t v → (q : Ret) → q ≡ stored a t v (Value 7 env) (r .after) → q ≡ setAt g d env sp n m
+        unfolding setC
         set-stores t v found q q-is = q-is ∙ sym (rw (← x-is, ← c-is, ← e-is, goes (is e m) k a target _, ← r-is, goes r t v found _))
 
   -- CALL

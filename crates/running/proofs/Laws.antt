@@ -17,7 +17,8 @@ use Rattle.machine.specs.Machine.{onBit, below, level}
 use Rattle.machine.proofs.Ending.{the-type}
 use Rattle.machine.proofs.Members.{below-level}
 use Rattle.entering.specs.Opening.{guarded}
-use Rattle.entering.proofs.Laws.{not-value, stop-no-value, same-word}
+use Rattle.stores.proofs.Laws.{not-value}
+use Rattle.entering.proofs.Laws.{stop-no-value, same-word}
 use Rattle.stores.specs.Choices.{isBit, bitAnswer, branchOf, roundEnd}
 
 -- ---- answers

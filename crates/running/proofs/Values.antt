@@ -15,11 +15,11 @@ use Rattle.machine.specs.Entries.{pick, rowAfter, row, putRow}
 use Rattle.machine.specs.State.{Run, codeAt, Tables, tables, Ret, is, onValue, andThen}
 use Rattle.machine.specs.Leaves.{negated, combined}
 use Rattle.machine.specs.Machine.{Evaluators, onBit, args, allArgs, ifE, andE, orE, operatorE, callE, applyE, exprBy, below, exprAt, level}
-use Rattle.machine.specs.Machine.{ifAt, operatorIn, callAt, argsAt}
+use Rattle.machine.specs.Machine.{ifAt, operatorIn, callAt, argsAt, allocAt, nthAt, lenAt, vsetAt}
 use Rattle.machine.proofs.Ending.{the-type}
 use Rattle.machine.proofs.Members.{expr-is, args-go}
 use Rattle.entering.specs.Opening.{guarded, opens}
-use Rattle.entering.proofs.Laws.{not-value}
+use Rattle.stores.proofs.Laws.{not-value}
 use Rattle.stores.specs.Choices.{isBit, bitAnswer, branchOf, plainBy, plainValue}
 use Rattle.running.specs.Parts.{partsE, applyV, partsAt, applyAt, innerAt}
 use Rattle.running.proofs.Laws.{NotValue, passes, goes, any-value, follow, guard-stops, guard-goes, guard-level, on-one, on-zero, on-branch, not-one, not-zero}
@@ -100,19 +100,45 @@ module _ (g : Run) (d env sp : ℕ) (m : Tables) (i : ℕ) (n : Node)
       unfolding exprBy applyE pick
       expr-operator l q q-is = q-is ∙ sym (rw (← o-is, le-ltb o 3 l)) ∙ enters 23 h
 
-    pub expr-plain : (n .kind ≡ 20 → ⊥) → (n .kind ≡ 21 → ⊥) → (n .kind ≡ 22 → ⊥) → (n .kind ≡ 23 → ⊥) → (c : ℕ) → c ≡ codeAt g i → (e : Ending) →
+    pub expr-alloc : n .kind ≡ 27 → (q : Ret) → q ≡ allocAt g x env sp n (r .after) → q ≡ exprAt g d env sp i m
+    unfolding exprBy pick
+    expr-alloc h q q-is = q-is ∙ enters 27 h
+
+    pub expr-nth : n .kind ≡ 28 → (q : Ret) → q ≡ nthAt g x env sp n (r .after) → q ≡ exprAt g d env sp i m
+    unfolding exprBy pick
+    expr-nth h q q-is = q-is ∙ enters 28 h
+
+    pub expr-len : n .kind ≡ 29 → (q : Ret) → q ≡ lenAt g x env sp n (r .after) → q ≡ exprAt g d env sp i m
+    unfolding exprBy pick
+    expr-len h q q-is = q-is ∙ enters 29 h
+
+    pub expr-vset : n .kind ≡ 30 → (q : Ret) → q ≡ vsetAt g x env sp n (r .after) → q ≡ exprAt g d env sp i m
+    unfolding exprBy pick
+    expr-vset h q q-is = q-is ∙ enters 30 h
+
+    pub expr-plain : (n .kind ≡ 20 → ⊥) → (n .kind ≡ 21 → ⊥) → (n .kind ≡ 22 → ⊥) → (n .kind ≡ 23 → ⊥) → (n .kind ≡ 27 → ⊥) → (n .kind ≡ 28 → ⊥) →
+        (n .kind ≡ 29 → ⊥) → (n .kind ≡ 30 → ⊥) → (c : ℕ) → c ≡ codeAt g i → (e : Ending) →
         e ≡ plainValue g.codes (r .after .bindings) (r .after .cells) (r .after .counts) env c n → is e (r .after) ≡ exprAt g d env sp i m
     unfolding plainValue plainBy exprBy pick
-    expr-plain h₁ h₂ h₃ h₄ c c-is e e-is =
-        ap (λ (a : Ending). is a (r .after)) e-is ∙ plain (n .kind) h₁ h₂ h₃ h₄ ∙
+    expr-plain h₁ h₂ h₃ h₄ h₅ h₆ h₇ h₈ c c-is e e-is =
+        ap (λ (a : Ending). is a (r .after)) e-is ∙ plain (n .kind) h₁ h₂ h₃ h₄ h₅ h₆ h₇ h₈ ∙
         ap (λ (a : ℕ). exprBy g (n .kind) a (level g x) env sp n (r .after)) c-is ∙ enters (n .kind) refl
       where
-        plain : (k : ℕ) → (k ≡ 20 → ⊥) → (k ≡ 21 → ⊥) → (k ≡ 22 → ⊥) → (k ≡ 23 → ⊥) →
+        plain : (k : ℕ) → (k ≡ 20 → ⊥) → (k ≡ 21 → ⊥) → (k ≡ 22 → ⊥) → (k ≡ 23 → ⊥) → (k ≡ 27 → ⊥) → (k ≡ 28 → ⊥) → (k ≡ 29 → ⊥) → (k ≡ 30 → ⊥) →
             is (plainBy k g.codes (r .after .bindings) (r .after .cells) (r .after .counts) env c n) (r .after) ≡
             exprBy g k c (level g x) env sp n (r .after)
-        plain k h₁ h₂ h₃ h₄ =
+        plain k h₁ h₂ h₃ h₄ h₅ h₆ h₇ h₈ =
             by-tests (r .after) (eqb k 18) (eqb k 19) (eqb k 24) (eqb k 25) _ _ _ _ ∙
-            sym (simp (ne-eqb k 20 h₁, ne-eqb k 21 h₂, ne-eqb k 22 h₃, ne-eqb k 23 h₄))
+            sym (simp (
+              ne-eqb k 20 h₁,
+              ne-eqb k 21 h₂,
+              ne-eqb k 22 h₃,
+              ne-eqb k 23 h₄,
+              ne-eqb k 27 h₅,
+              ne-eqb k 28 h₆,
+              ne-eqb k 29 h₇,
+              ne-eqb k 30 h₈,
+            ))
 
 -- ---- what is entered already
 

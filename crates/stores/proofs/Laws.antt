@@ -17,13 +17,28 @@ use mir.Facts.{toZ-ofZ}
 use Rattle.nodes.specs.declared.Node.{Node}
 use Rattle.machine.specs.declared.Binding.{Binding}
 use Rattle.machine.specs.declared.Counts.{Counts}
+use Rattle.machine.specs.declared.Row.{Row}
 use Rattle.machine.specs.declared.Ending.{Ending}
 use Rattle.machine.specs.declared.Ending.the-variants.{Value, Stop, NoRule}
-use Rattle.machine.specs.Entries.{pick, bindingAt}
-use Rattle.machine.specs.State.{Run, Tables, tables, is, ifValue}
-use Rattle.machine.specs.Leaves.{codeIn, walk}
+use Rattle.machine.specs.Entries.{pick, bindingAt, putRow, putRows, nodeOf, envOf}
+use Rattle.machine.specs.State.{Run, Tables, tables, Ret, is, andThen, ifValue, onValue}
+use Rattle.machine.specs.Leaves.{codeIn, walk, stored, elementOf, setElement}
 use Rattle.machine.proofs.Ending.{the-type}
 use Rattle.stores.specs.Choices.{outward, plainBy, plainValue, echoed}
+
+-- ---- rows
+
+one-more : (n : ℕ) → (n ≡ 0 → ⊥) → suc (n - 1) ≡ n
+one-more n h = omega arith
+
+pub rows-go-on : (left at tag word : ℕ) (l l₁ : List ℕ) → (left ≡ 0 → ⊥) → l₁ ≡ putRow l at tag word →
+    putRows (left - 1) l₁ (at + 1) tag word ≡ putRows left l at tag word
+unfolding putRows
+rows-go-on left at tag word l l₁ h e = rw (e, add-one at) (ap (λ (j : ℕ). putRows j l at tag word) (one-more left h))
+
+pub rows-end : (left at tag word : ℕ) (l : List ℕ) → left ≡ 0 → l ≡ putRows left l at tag word
+unfolding putRows
+rows-end left at tag word l h = rw h
 
 -- ---- names
 
@@ -39,7 +54,7 @@ module _ (b : List ℕ) (c : ℕ) where
 
   module _ (n env : ℕ) (some : n ≡ 0 → ⊥) where
     walk-go : walk b c n env ≡ walk b c (suc (n - 1)) env
-    walk-go = ap (λ (k : ℕ). walk b c k env) (omega arith)
+    walk-go = ap (λ (k : ℕ). walk b c k env) (sym (one-more n some))
 
     pub walk-ends : env ≡ 0 → NoRule ≡ walk b c n env
     unfolding walk pick
@@ -65,6 +80,29 @@ pub if-not-value : (e : Ending) → (tagOf the-type e ≡ 1) ⊎ (tagOf the-type
 if-not-value (Value t x) h k = ⊎-elim (λ q. absurd (omega arith)) (λ q. absurd (omega arith)) h
 if-not-value (Stop n p) h k = refl
 if-not-value NoRule h k = refl
+
+-- the same for an answer with the tables
+pub not-value : (e : Ending) → (tagOf the-type e ≡ 1) ⊎ (tagOf the-type e ≡ 2) → (m : Tables) (k : ℕ → ℕ → Tables → Ret) →
+    is e m ≡ onValue e m k
+not-value (Value t x) h m k = ⊎-elim (λ q. absurd (omega arith)) (λ q. absurd (omega arith)) h
+not-value (Stop n p) h m k = refl
+not-value NoRule h m k = refl
+
+-- ---- blocks of cells
+
+-- the cell of an element is a word: half of one, and a number below the other half
+pub sum-fits : (x a n y : ℕ) → x < 18446744073709551616 → a ≡ nodeOf x → n ≡ envOf x → y < n → a + y < 18446744073709551616
+unfolding nodeOf envOf
+sum-fits x a n y h e f l = omega arith
+
+module _ (p : ℕ) (block index : Row) (tag word : ℕ) (m : Tables) (e : Ending) (e-is : e ≡ elementOf p block index) where
+  pub element-set : (t a : ℕ) → e ≡ Value t a → stored a tag word (Value (block .tag) (block .word)) m ≡ setElement p block index tag word m
+  unfolding setElement andThen
+  element-set t a found = rw (← e-is, found)
+
+  pub element-none : (tagOf the-type e ≡ 1) ⊎ (tagOf the-type e ≡ 2) → is e m ≡ setElement p block index tag word m
+  unfolding setElement andThen
+  element-none h = rw (← e-is) (not-value e h m _)
 
 -- ---- numbers
 

@@ -13,7 +13,7 @@ use Rattle.machine.specs.declared.Counts.{Counts}
 use Rattle.machine.specs.declared.Ending.{Ending}
 use Rattle.machine.specs.declared.Ending.the-variants.{Value, Stop, NoRule}
 use Rattle.machine.specs.Entries.{pick, number-tag, function-tag, done-tag, closureWord}
-use Rattle.machine.specs.State.{Run, Tables, Ret, is, store, putOut}
+use Rattle.machine.specs.State.{Run, Tables, Ret, is, putOut}
 use Rattle.machine.specs.Leaves.{codeIn, nameValue, addressOf}
 
 unfoldable pub isBit : (tag word bit : ℕ) → Bool
@@ -55,7 +55,3 @@ echoed g p env t x m =
     pick (eqb t number-tag) (λ _.
     pick (ltb (m .counts .numbers) (g.bounds .output)) (λ _. is (Value done-tag env) (putOut (toZ w64 x) m)) λ _. is (Stop 24 p) m)
     λ _. is NoRule m
-
--- the value t x is stored in the cell a
-unfoldable pub stored : (a tag word env : ℕ) → Tables → Ret
-stored a t x env m = pick (ltb a (m .counts .cells)) (λ _. is (Value done-tag env) (store a t x m)) λ _. is NoRule m

@@ -1,3 +1,4 @@
+-- Written by tools/prove from Proof.tmpl.
 use mathlib.Core.Path.{refl, _∙_}
 use Rattle.entering.proofs.Laws.{cell-some, cell-full}
 use borrow.Author.Needs.{needs}
@@ -7,8 +8,8 @@ use Rattle.entering.proofs.bind_cell.Tie as tie
 put-row-requires : tie.Need-put-row-requires
 put-row-requires c κs = search needs
 
-add-more : tie.Need-add-more
-add-more c = search needs
+with-cells-requires : tie.Need-with-cells-requires
+with-cells-requires c κs = search needs
 
 bind-name-requires : tie.Need-bind-name-requires
 bind-name-requires c κs = search needs
@@ -20,10 +21,10 @@ same-length-2 : tie.Need-same-length-2
 same-length-2 c = search needs
 
 returns : tie.Need-returns
-returns c =
-    let bind-name = c .before .before .bind-name in let c₁ = c .before .before .before .before .before .before in let put-row = c₁ .put-row in
-    let if1 = c₁ .before .before .if1 in
-    ((λ t v w o. bind-name .ensures .0 t v _ w o ∙ cell-some _ _ _ _ (if1 .taken) _ (put-row .ensures)), bind-name .ensures .1)
+returns c = (
+  (λ t v w o. c .before .before .bind-name .ensures .0 t v _ w o ∙ cell-some _ _ _ _ (c .before .before .before .before .before .before .before .before .before .if1 .taken) _ _ (c .before .before .before .before .before .before .before .put-row .ensures) (c .before .before .before .before .with-cells .ensures)),
+  c .before .before .bind-name .ensures .1 ∙ rw (c .before .before .before .before .with-cells .ensures),
+)
 
 returns-2 : tie.Need-returns-2
 returns-2 c = ((λ t v w o. cell-full _ _ _ _ (c .if1 .left)), refl)
@@ -33,7 +34,7 @@ bind-cell-spec =
     tie.close
     (tie.spec
     put-row-requires
-    add-more
+    with-cells-requires
     bind-name-requires
     same-length
     same-length-2

@@ -1,7 +1,6 @@
 use mathlib.Core.Path.{refl}
 use borrow.Author.Tests.{lt-ltb, le-ltb}
 use Rattle.machine.specs.Entries.{pick}
-use Rattle.stores.specs.Choices.{stored}
 use borrow.Author.Needs.{needs}
 use Rattle.stores.proofs.store_cell.Statement.{statement}
 use Rattle.stores.proofs.store_cell.Tie as tie
@@ -13,11 +12,11 @@ same-length : tie.Need-same-length
 same-length c = search needs
 
 returns : tie.Need-returns
-unfolding stored pick
+unfolding pick
 returns c = ((λ b w o. rw (lt-ltb _ _ (c .before .before .before .before .if1 .taken), ← c .before .before .put-row .ensures)), refl)
 
 returns-2 : tie.Need-returns-2
-unfolding stored pick
+unfolding pick
 returns-2 c = ((λ b w o. rw (le-ltb _ _ (c .if1 .left))), refl)
 
 pub store-cell-spec : {M : Type 1} → statement M
