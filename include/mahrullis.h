@@ -46,7 +46,7 @@ typedef char mahrullis_needs_64_bits[sizeof(size_t) == 8 ? 1 : -1];
 #define MAHRULLIS_ENTRIES_A_CELL 2
 #define MAHRULLIS_ENTRIES_A_NUMBER 1
 
-/* Every answer. CHECK gives 0, 1 and 3 to 10, RUN 0, 1 to 10 and 20 to 27, NAME 0 and 3. 1 to 10 are refusals; 20 to 27 stop a run,
+/* Every answer. CHECK gives 0, 1 and 3 to 10, RUN 0, 1 to 10 and 20 to 29, NAME 0 and 3. 1 to 10 are refusals; 20 to 29 stop a run,
  * 20 to 24 at a limit. 34 to 36 refuse calls on purses. */
 enum mahrullis_answer {
     MAHRULLIS_DONE = 0,      /* accepted, or run to its end; place 0 */
@@ -62,12 +62,14 @@ enum mahrullis_answer {
     MAHRULLIS_DOUBLE = 10,   /* a parameter has the name of one before it in its list, at it */
     MAHRULLIS_FUEL = 20,     /* no unit is left, at the node entered */
     MAHRULLIS_DEPTH = 21,    /* too many are entered and unended, at the node entered */
-    MAHRULLIS_CELLS = 22,    /* no cell is left, at the VAR */
+    MAHRULLIS_CELLS = 22,    /* fewer cells are left than are made, at the VAR or alloc */
     MAHRULLIS_BINDINGS = 23, /* fewer bindings are left than are made, at the definition, CALL or application */
     MAHRULLIS_OUTPUT = 24,   /* as many numbers are out as may be, at the ECHO */
     MAHRULLIS_RANGE = 25,    /* a result is outside the range of int64_t, at the application */
     MAHRULLIS_ZERO = 26,     /* div by 0, at the application */
-    MAHRULLIS_UNSET = 27,    /* a cell is read before it is set, at the name */
+    MAHRULLIS_UNSET = 27,    /* a cell is read before it is set, at the name or nth */
+    MAHRULLIS_SIZE = 28,     /* a block's size is below 0, at the alloc */
+    MAHRULLIS_INDEX = 29,    /* an index is below 0 or not below the block's length, at the nth or vset */
     MAHRULLIS_PURSE = 34,    /* calls on purses: a purse above 63, or a credit past the most that a purse holds; place 0 */
     MAHRULLIS_JOURNAL = 35,  /* a record of the journal has its mark and is wrong; place 0 */
     MAHRULLIS_FULL = 36      /* no whole record is left in the journal; place 0 */
@@ -99,7 +101,12 @@ enum mahrullis_kind {
     MAHRULLIS_KIND_OR = 22,
     MAHRULLIS_KIND_APPLICATION = 23,
     MAHRULLIS_KIND_ABSTRACTION = 24,
-    MAHRULLIS_KIND_ADR = 25
+    MAHRULLIS_KIND_ADR = 25,
+    MAHRULLIS_KIND_VEC = 26, /* the type of blocks of cells */
+    MAHRULLIS_KIND_ALLOC = 27,
+    MAHRULLIS_KIND_NTH = 28,
+    MAHRULLIS_KIND_LEN = 29,
+    MAHRULLIS_KIND_VSET = 30
 };
 
 /* CHECK: is the text a program whose types hold? Answers an enum mahrullis_answer and writes report[0] to report[5]: the answer, its place, and four zeros.
@@ -235,7 +242,7 @@ struct mahrullis_limits {
     uint64_t fuel;     /* units: definitions, statements, expressions and adr that may be entered */
     uint64_t depth;    /* of these, how many may be unended at a time */
     uint64_t bindings; /* how many may be made */
-    uint64_t cells;    /* how many VAR may take */
+    uint64_t cells;    /* how many VAR and alloc may take */
     uint64_t output;   /* how many numbers may be put out */
 };
 

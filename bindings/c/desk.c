@@ -38,6 +38,12 @@ static const struct script scripts[] = {
     { "[ECHO 9223372036854775808]", GREATEST, { MAHRULLIS_NUMBER, 6, 0, 0, 0, 0 }, { 0 } },
     { "[VAR x int; SET x 0; WHILE (lt x 3) [ECHO x; SET x (add x 1)]]", WITH_FUEL(100000), { MAHRULLIS_DONE, 0, 37, 1, 1, 3 }, { 0, 1, 2 } },
     { "", GREATEST, { MAHRULLIS_SYNTAX, 0, 0, 0, 0, 0 }, { 0 } },
+    { "[CONST b (vec int) (alloc int 3); ECHO (len b); ECHO (nth (vset b 2 7) 2); ECHO (nth b 2)]", GREATEST, { MAHRULLIS_DONE, 0, 17, 1, 3, 3 }, { 3, 7, 7 } },
+    { "[ECHO (len (alloc int 4097))]", GREATEST, { MAHRULLIS_CELLS, 11, 4, 0, 0, 0 }, { 0 } },
+    { "[ECHO (len (alloc int -1))]", GREATEST, { MAHRULLIS_SIZE, 11, 4, 0, 0, 0 }, { 0 } },
+    { "[ECHO (nth (alloc int 3) 3)]", GREATEST, { MAHRULLIS_INDEX, 6, 5, 0, 3, 0 }, { 0 } },
+    { "[ECHO (nth (alloc int 3) 0)]", GREATEST, { MAHRULLIS_UNSET, 6, 5, 0, 3, 0 }, { 0 } },
+    { "[CONST v (vec (int -> int)) y; ECHO 1]", GREATEST, { MAHRULLIS_TYPE, 9, 0, 0, 0, 0 }, { 0 } },
 };
 
 static struct mahrullis_tables tables, before;

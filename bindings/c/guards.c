@@ -11,6 +11,9 @@
 enum { TREE, WORDS, STACK, SCOPES, NOTES, WAITING, BINDINGS, CELLS, OUTPUT, REPORT, PART, TABLES };
 enum job { CHECK, RUN, NAME, JOBS };
 
+/* The answers of the jobs are below this. */
+#define ANSWERS 30
+
 /* Entries around a table at its longest: guards before and behind, and room for it to be longer than it must and to lie elsewhere. */
 #define GUARD 64
 #define SPARE 32
@@ -43,11 +46,11 @@ static size_t text_length, at;
 static struct mahrullis_limits limits;
 static uint64_t answer;
 
-static unsigned long long seen[JOBS][28];
+static unsigned long long seen[JOBS][ANSWERS];
 static const char *const job_names[JOBS] = { "CHECK", "RUN", "NAME" };
-static const char *const answer_names[28] = {
+static const char *const answer_names[ANSWERS] = {
     "DONE", "LENGTH", "LIMIT", "TABLE", "BYTE", "NUMBER", "TOKENS", "SYNTAX", "LEVEL", "TYPE", "DOUBLE", 0, 0, 0, 0, 0, 0, 0, 0, 0,
-    "FUEL", "DEPTH", "CELLS", "BINDINGS", "OUTPUT", "RANGE", "ZERO", "UNSET",
+    "FUEL", "DEPTH", "CELLS", "BINDINGS", "OUTPUT", "RANGE", "ZERO", "UNSET", "SIZE", "INDEX",
 };
 
 static void fail(const char *what, const char *table) {
@@ -188,7 +191,7 @@ static void expect_report(void) {
     if (job == CHECK || (answer >= 1 && answer <= 10)) hold(units == 0 && bindings == 0 && cells == 0 && numbers == 0, "no run, no counts");
     else hold(units <= limits.fuel && bindings <= limits.bindings && cells <= limits.cells && numbers <= limits.output, "the counts keep the limits");
     if (answer == MAHRULLIS_FUEL) hold(units == limits.fuel, "FUEL: every unit is taken");
-    if (answer == MAHRULLIS_CELLS) hold(cells == limits.cells, "CELLS: every cell is taken");
+    if (answer == MAHRULLIS_CELLS && text[place] != '(') hold(cells == limits.cells, "CELLS at a VAR: every cell is taken");
     if (answer == MAHRULLIS_OUTPUT) hold(numbers == limits.output, "OUTPUT: every number is out");
     memcpy(image(REPORT), r, MAHRULLIS_REPORT_ENTRIES * sizeof r[0]);
 }
@@ -201,7 +204,7 @@ static void expect_tree(void) {
     hold(count >= 3 && mahrullis_node_kind(tree[0]) == MAHRULLIS_KIND_BLOCK && mahrullis_node_sibling(tree[0]) == 0, "the root is a block");
     for (size_t i = 0; i < count; i++) {
         size_t child = mahrullis_node_child(tree[i]), sibling = mahrullis_node_sibling(tree[i]);
-        hold(mahrullis_node_kind(tree[i]) >= 1 && mahrullis_node_kind(tree[i]) <= 25, "a node's kind");
+        hold(mahrullis_node_kind(tree[i]) >= 1 && mahrullis_node_kind(tree[i]) <= MAHRULLIS_KIND_VSET, "a node's kind");
         hold(mahrullis_node_place(tree[i]) < text_length, "a node's place");
         hold(i == 0 || mahrullis_node_place(tree[i - 1]) < mahrullis_node_place(tree[i]), "nodes stand in text order");
         hold(child == 0 || child == i + 1, "a first child follows its parent");
@@ -224,7 +227,7 @@ static void expect_numbers(void) {
 static void expect_tables(void) {
     uint64_t early = early_answer();
     if (early != 0) hold(answer == early, "the early answer");
-    else hold(answer == 0 || (answer >= 4 && answer <= 10) || (job == RUN && answer >= 20 && answer <= 27), "an answer of this job");
+    else hold(answer == 0 || (answer >= 4 && answer <= 10) || (job == RUN && answer >= 20 && answer < ANSWERS), "an answer of this job");
     if (tables[REPORT].length < MAHRULLIS_REPORT_ENTRIES) return;
     expect_report();
     if (early != 0) return;
@@ -281,9 +284,9 @@ static int tell(void) {
     int missing = 0;
     for (int j = 0; j < JOBS; j++) {
         unsigned long long sum = 0;
-        for (int code = 0; code < 28; code++) sum += seen[j][code];
+        for (int code = 0; code < ANSWERS; code++) sum += seen[j][code];
         printf("%s %llu:", job_names[j], sum);
-        for (int code = 0; code < 28; code++) {
+        for (int code = 0; code < ANSWERS; code++) {
             if (!may_answer(j, code)) continue;
             printf(" %s %llu", answer_names[code], seen[j][code]);
             missing += seen[j][code] == 0;

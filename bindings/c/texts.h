@@ -59,26 +59,33 @@ static const char *const whole_scripts[] = {
     "[FUN f (int -> int) [a:int] [b:int] (sub a b); ECHO ((f 9) 4)]",
     "[VAR a int; VAR b int; SET a 1; PROC swap [var x:int, var y:int] [VAR t int; SET t x; SET x y; SET y t]; SET b 2; CALL swap (adr a) (adr b); ECHO a; ECHO b]",
     "[FUN fare int [zones:int, peak:bool, zones:int] (mul zones 95); ECHO (fare 1 true 2)]",
+    "[CONST b (vec int) (alloc int 3); ECHO (len b); ECHO (nth (vset b 2 7) 2); ECHO (nth b 0)]",
+    "[CONST b (vec (vec bool)) (alloc (vec bool) 2); IF (nth (nth (vset b 1 (vset (alloc bool 1) 0 true)) 1) 0) [ECHO 1] [ECHO 0]]",
+    "[FUN b (vec int) [n:int] (alloc int n); ECHO (len (b 4)); ECHO (len (b -1))]",
+    "[VAR i int; SET i 0; CONST b (vec int) (alloc int 3); WHILE true [SET i (add 1 (nth (vset b i i) i))]]",
+    "[PROC REC p [b:(vec int)] [CALL p (alloc int (len b))]; CALL p (alloc int 700)]",
+    "[FUN f int [b:(vec (int -> int))] 1; ECHO 1]",
     "12ab 1-2 -> - > 007 VARx var adr\t(adr",
 };
 
 static const char *const words[] = {
     "[", "]", "(", ")", ";", ":", ",", "*", "->", "CONST", "FUN", "REC", "VAR", "PROC", "ECHO", "SET", "IF", "WHILE", "CALL", "if", "and", "or", "bool", "int",
     "var", "adr", "true", "false", "not", "eq", "lt", "add", "sub", "mul", "div", "x", "y", "f", "n", "p", "0", "1", "-1", "42", "9223372036854775807", "-9223372036854775808",
-    "9223372036854775808", "fare2", "ECHO 1;", "[ECHO x]", "(add x 1)", "[n:int]", "(int -> int)",
+    "9223372036854775808", "fare2", "ECHO 1;", "[ECHO x]", "(add x 1)", "[n:int]", "(int -> int)", "vec", "alloc", "nth", "len", "vset", "(vec int)", "(alloc int 2)",
 };
 
 /* In this order they hold; where one is left out, what needs it is a TYPE. */
 static const char *const definitions[] = {
     "CONST k int 7", "VAR x int", "VAR b bool", "FUN f int [n:int] (add n (mul k 2))", "FUN REC g int [n:int] (if (lt n 1) 0 (add n (g (sub n 1))))",
     "PROC p [var v:int, n:int] [SET v (add v n)]", "PROC REC q [n:int] [VAR c int; SET c n; ECHO c; IF (lt 0 n) [CALL q (sub c 1)] [ECHO 0]]",
-    "FUN h int [t:(int -> int), n:int] (t (t n))", "FUN w int [a:int, b:int, c:int, d:int] (sub (add a b) (add c d))", "SET x 3", "SET b true",
+    "FUN h int [t:(int -> int), n:int] (t (t n))", "FUN w int [a:int, b:int, c:int, d:int] (sub (add a b) (add c d))", "CONST v (vec int) (alloc int k)", "SET x 3", "SET b true",
 };
 
 static const char *const statements[] = {
     "SET x 3", "SET x (add x 1)", "ECHO x", "ECHO (f x)", "ECHO (g 5)", "CALL p (adr x) 4", "CALL q 3", "ECHO (h f 2)", "ECHO (h [n:int] (mul n n) 300)",
     "WHILE (lt x 20) [SET x (add x 5)]", "IF b [ECHO 1] [ECHO 2]", "SET b (eq x 3)", "ECHO (div k (sub x 3))", "ECHO (mul 281474976710656 (mul k 9999))", "ECHO (g 300)",
     "WHILE true [SET x 1]", "CALL q 30", "ECHO (w 1 x k (g 2))", "IF (or b (lt x 2)) [VAR y int; ECHO y] [ECHO (sub 0 x)]", "ECHO ([a:int, b:int] (mul a b) x k)",
+    "ECHO (len (vset v x k))", "ECHO (nth v 3)", "ECHO (nth (vset v 0 x) 0)", "ECHO (len (alloc bool (sub k x)))", "WHILE (lt x 9) [SET x (add (nth (vset v x x) x) 1)]",
 };
 
 static uint64_t random_state;

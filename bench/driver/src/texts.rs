@@ -44,7 +44,7 @@ fn filled(most: usize, rest: usize, piece: impl Fn(usize) -> String) -> String {
 // ---- what a run is timed by
 
 pub fn workloads() -> Vec<Text> {
-    ["loop", "sort", "deep", "calls"].map(|name| script("bench/programs", name)).into()
+    ["loop", "sort", "deep", "calls", "blocksort"].map(|name| script("bench/programs", name)).into()
 }
 
 pub fn tariffs() -> Vec<Text> {

@@ -3,7 +3,7 @@
 use crate::answers::{DOUBLE, TYPE};
 use crate::code::{Arguments, At, Block, Body, Code, Command, CommandKind, Expr, ExprId, ExprKind, Function};
 use crate::nodes::{Kind, Node};
-use crate::types::{is_plain, Type, Types, BOOL, BY_ADDRESS, INT};
+use crate::types::{block_of, element_of, is_element, is_plain, Type, Types, BOOL, BY_ADDRESS, INT};
 use crate::words::nine;
 use crate::Refusal;
 
@@ -154,20 +154,25 @@ impl<'a> Checker<'a> {
 
     // ---- types
 
-    fn written_type(&mut self, i: u16) -> Type {
+    fn written_type(&mut self, i: u16) -> Judged<Type> {
         let node = self.node(i);
         match node.kind {
-            Kind::Bool => BOOL,
-            Kind::Int => INT,
+            Kind::Bool => Ok(BOOL),
+            Kind::Int => Ok(INT),
+            Kind::Vec => {
+                let element = self.written_type(node.child)?;
+                must(is_element(element), node)?;
+                Ok(block_of(element))
+            }
             _ => {
                 let mark = self.scratch.parts.len();
                 let mut part = node.child;
                 while part != 0 {
-                    let t = self.written_type(part);
+                    let t = self.written_type(part)?;
                     self.scratch.parts.push(t);
                     part = self.node(part).next;
                 }
-                self.function_type(mark)
+                Ok(self.function_type(mark))
             }
         }
     }
@@ -201,14 +206,14 @@ impl<'a> Checker<'a> {
         let first = self.node(node.child);
         match node.kind {
             Kind::Const => {
-                let written = self.written_type(first.next);
+                let written = self.written_type(first.next)?;
                 let (e, t) = self.expr(self.node(first.next).next)?;
                 must(is_free(first.info) && t == written, node)?;
                 Ok(CommandKind::Const(self.bind(first.info, Binds::Value(t)), e))
             }
             Kind::Fun | Kind::FunRec => self.function(node, first),
             Kind::Var => {
-                let t = self.written_type(first.next);
+                let t = self.written_type(first.next)?;
                 must(is_free(first.info) && is_plain(t), node)?;
                 Ok(CommandKind::Var(self.bind(first.info, Binds::Cell(t))))
             }
@@ -281,7 +286,7 @@ impl<'a> Checker<'a> {
                 Kind::VarParam => true,
                 _ => return Ok((self.scratch.binders.len() as u16 - first, i)),
             };
-            let t = self.written_type(node.child);
+            let t = self.written_type(node.child)?;
             must(is_free(node.info) && (is_plain(t) || !by_address), node)?;
             if self.scratch.in_force[usize::from(node.info)].is_some_and(|binder| binder >= first) {
                 return refuse(DOUBLE, node);
@@ -295,7 +300,7 @@ impl<'a> Checker<'a> {
     fn function(&mut self, node: Node, name: Node) -> Judged<CommandKind> {
         let (binders, parts) = (self.scratch.binders.len(), self.scratch.parts.len());
         let recursive = node.kind == Kind::FunRec;
-        let result = self.written_type(name.next);
+        let result = self.written_type(name.next)?;
         let outside = self.enter();
         let (params, body) = self.params(self.node(name.next).next)?;
         self.scratch.parts.push(result);
@@ -374,6 +379,30 @@ impl<'a> Checker<'a> {
                 (if node.kind == Kind::And { ExprKind::And(a, b) } else { ExprKind::Or(a, b) }, BOOL)
             }
             Kind::Application => self.application(node)?,
+            Kind::Alloc => {
+                let element = self.written_type(node.child)?;
+                let (e, size) = self.expr(self.node(node.child).next)?;
+                must(is_element(element) && size == INT, node)?;
+                (ExprKind::Alloc(e), block_of(element))
+            }
+            Kind::Nth => {
+                let ((a, block), (b, index)) = (self.expr(node.child)?, self.expr(self.node(node.child).next)?);
+                match element_of(block) {
+                    Some(element) if index == INT => (ExprKind::Nth(a, b), element),
+                    _ => return refuse(TYPE, node),
+                }
+            }
+            Kind::Len => {
+                let (a, block) = self.expr(node.child)?;
+                must(element_of(block).is_some(), node)?;
+                (ExprKind::Len(a), INT)
+            }
+            Kind::Vset => {
+                let second = self.node(node.child).next;
+                let ((a, block), (b, index), (c, value)) = (self.expr(node.child)?, self.expr(second)?, self.expr(self.node(second).next)?);
+                must(element_of(block) == Some(value) && index == INT, node)?;
+                (ExprKind::Vset(a, b, c), block)
+            }
             _ => self.abstraction(node)?,
         };
         Ok((self.put(node, kind), t))

@@ -46,6 +46,10 @@ pub enum ExprKind {
     Apply(ExprId, Arguments),
     /// An abstraction: an index in [`Code::functions`].
     Closure(u16),
+    Alloc(ExprId),
+    Nth(ExprId, ExprId),
+    Len(ExprId),
+    Vset(ExprId, ExprId, ExprId),
 }
 
 #[derive(Clone, Copy)]

@@ -42,6 +42,8 @@ mod answers {
     pub const RANGE: u8 = 25;
     pub const ZERO: u8 = 26;
     pub const UNSET: u8 = 27;
+    pub const SIZE: u8 = 28;
+    pub const INDEX: u8 = 29;
 }
 
 /// The longest text that is read, in bytes.

@@ -1,9 +1,10 @@
 //! Evaluation: every entry takes a unit, and the levels left fall with each that has not ended.
 //!
-//! A value is one word without a tag, as its type is known: a number, 0 or 1 for a bool, a cell's index, or a closure: a function and the frame around it.
-//! Variables hold only numbers and bools, so no closure outlives the statement that made it unless a definition binds it: a CALL gives its frames back when it ends.
+//! A value is one word without a tag, as its type is known: a number, 0 or 1 for a bool, a cell's index, a block of cells: its first and how many, or a closure: a
+//! function and the frame around it. Cells hold no closures, so none outlives the statement that made it unless a definition binds it: a CALL gives its frames back
+//! when it ends.
 
-use crate::answers::{BINDINGS, CELLS, DEPTH, FUEL, OUTPUT, RANGE, UNSET, ZERO};
+use crate::answers::{BINDINGS, CELLS, DEPTH, FUEL, INDEX, OUTPUT, RANGE, SIZE, UNSET, ZERO};
 use crate::code::{Arguments, At, Block, Body, Code, Command, CommandKind, Expr, ExprId, ExprKind};
 use crate::{Limits, Refusal, Report};
 
@@ -49,6 +50,18 @@ const FRAME_MASK: i64 = (1 << FRAME_BITS) - 1;
 
 fn closure(function: u16, frame: usize) -> i64 {
     i64::from(function) << FRAME_BITS | frame as i64
+}
+
+/// A block's word has its length in the lower half.
+const LENGTH_BITS: u32 = 32;
+const LENGTH_MASK: i64 = (1 << LENGTH_BITS) - 1;
+
+fn block_of_cells(first: usize, length: i64) -> i64 {
+    (first as i64) << LENGTH_BITS | length
+}
+
+fn length_of(block: i64) -> i64 {
+    block & LENGTH_MASK
 }
 
 /// The index of a slot: the word before the slots is the frame around.
@@ -139,6 +152,30 @@ impl<'a> Machine<'a> {
         Ok(())
     }
 
+    // ---- blocks of cells
+
+    /// So many cells at once, or none.
+    fn alloc(&mut self, size: i64, place: u16) -> Ran<i64> {
+        if size < 0 {
+            return self.stop(SIZE, place);
+        }
+        let first = self.room.cells.len();
+        if size as u64 > self.limits.cells - first as u64 {
+            return self.stop(CELLS, place);
+        }
+        self.room.cells.resize(first + size as usize, None);
+        Ok(block_of_cells(first, size))
+    }
+
+    /// The cell of an element.
+    #[inline(always)]
+    fn element(&mut self, block: i64, index: i64, place: u16) -> Ran<i64> {
+        if !(0..length_of(block)).contains(&index) {
+            return self.stop(INDEX, place);
+        }
+        Ok((block >> LENGTH_BITS) + index)
+    }
+
     // ---- expressions
 
     #[inline(always)]
@@ -206,6 +243,23 @@ impl<'a> Machine<'a> {
                 }
             }
             ExprKind::Closure(function) => Ok(closure(function, frame)),
+            ExprKind::Alloc(a) => {
+                let size = self.expr(a, frame, depth)?;
+                self.alloc(size, place)
+            }
+            ExprKind::Nth(a, b) => {
+                let (block, index) = self.two(a, b, frame, depth)?;
+                let cell = self.element(block, index, place)?;
+                self.read(cell, place)
+            }
+            ExprKind::Len(a) => self.expr(a, frame, depth).map(length_of),
+            ExprKind::Vset(a, b, c) => {
+                let (block, index) = self.two(a, b, frame, depth)?;
+                let value = self.expr(c, frame, depth)?;
+                let cell = self.element(block, index, place)?;
+                self.room.cells[cell as usize] = Some(value);
+                Ok(block)
+            }
         }
     }
 

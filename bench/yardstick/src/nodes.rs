@@ -29,6 +29,11 @@ pub enum Kind {
     Application,
     Abstraction,
     Adr,
+    Vec,
+    Alloc,
+    Nth,
+    Len,
+    Vset,
 }
 
 /// A node; as child or sibling 0 means none, for node 0 is nobody's.

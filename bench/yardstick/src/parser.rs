@@ -188,6 +188,9 @@ impl<'a> Parser<'a> {
             return Ok(self.node(nodes::Kind::Int, first));
         }
         self.open(Kind::Open)?;
+        if self.took(Kind::Vec) {
+            return self.block_type(first);
+        }
         let parent = self.node(nodes::Kind::Function, first);
         let mut row = Row::of(parent);
         loop {
@@ -200,6 +203,15 @@ impl<'a> Parser<'a> {
         self.take(Kind::Arrow)?;
         let result = self.written_type()?;
         self.link(&mut row, result);
+        self.close(Kind::Close)?;
+        Ok(parent)
+    }
+
+    /// The type of a block, behind its key word.
+    fn block_type(&mut self, first: usize) -> Read<usize> {
+        let parent = self.node(nodes::Kind::Vec, first);
+        let element = self.written_type()?;
+        self.nodes[parent].child = element as u16;
         self.close(Kind::Close)?;
         Ok(parent)
     }
@@ -297,12 +309,20 @@ impl<'a> Parser<'a> {
             Kind::If => (nodes::Kind::If, Some(3)),
             Kind::And => (nodes::Kind::And, Some(2)),
             Kind::Or => (nodes::Kind::Or, Some(2)),
+            Kind::Alloc => (nodes::Kind::Alloc, Some(1)),
+            Kind::Nth => (nodes::Kind::Nth, Some(2)),
+            Kind::Len => (nodes::Kind::Len, Some(1)),
+            Kind::Vset => (nodes::Kind::Vset, Some(3)),
             _ => (nodes::Kind::Application, None),
         };
         let parent = self.node(kind, first);
         let mut row = Row::of(parent);
-        // a head and one argument at least
         self.at += usize::from(parts.is_some());
+        if kind == nodes::Kind::Alloc {
+            let element = self.written_type()?;
+            self.link(&mut row, element);
+        }
+        // a head and one argument at least
         for _ in 0..parts.unwrap_or(2) {
             let part = self.expr()?;
             self.link(&mut row, part);

@@ -1,4 +1,4 @@
-//! Edges of the language: numbers at the ends of their range, division that rounds down, parameters of one name.
+//! Edges of the language: numbers at the ends of their range, division that rounds down, parameters of one name, blocks of cells.
 #![forbid(unsafe_code)]
 
 use yardstick::{Limits, Yardstick};
@@ -6,8 +6,12 @@ use yardstick::{Limits, Yardstick};
 const NUMBER: u8 = 5;
 const TYPE: u8 = 9;
 const DOUBLE: u8 = 10;
+const CELLS: u8 = 22;
 const RANGE: u8 = 25;
 const ZERO: u8 = 26;
+const UNSET: u8 = 27;
+const SIZE: u8 = 28;
+const INDEX: u8 = 29;
 
 /// A script whose run ends with this answer where `@` stands, which is no part of it.
 fn ends(marked: &str, code: u8) {
@@ -72,4 +76,30 @@ fn a_parameter_list_has_a_name_once() {
     gives("(([a:int] [a:int] a 1) 2)", 2);
     let text = "[FUN REC f int [f:int] 3; ECHO (f 1)]";
     assert_eq!(Yardstick::new().run(text.as_bytes(), Limits::GREATEST).code, 0);
+}
+
+#[test]
+fn blocks_of_cells() {
+    gives("(nth (vset (alloc int 3) 2 7) 2)", 7);
+    gives("(len (alloc bool 0))", 0);
+    gives("(len (alloc (vec int) 4096))", 4096);
+    gives("(nth (nth (vset (alloc (vec int) 1) 0 (vset (alloc int 2) 1 5)) 0) 1)", 5);
+    ends("[ECHO (len @(alloc int -1))]", SIZE);
+    ends("[ECHO (len @(alloc int 4097))]", CELLS);
+    ends("[ECHO @(nth (alloc int 3) 3)]", INDEX);
+    ends("[ECHO @(nth (alloc int 3) -1)]", INDEX);
+    ends("[ECHO (len @(vset (alloc int 0) 0 1))]", INDEX);
+    ends("[ECHO @(nth (alloc int 3) 2)]", UNSET);
+    // all parts come before the stops of the whole
+    ends("[ECHO (len (vset (alloc int 1) 9 @(div 1 0)))]", ZERO);
+    // a block's elements are bools, ints or blocks: what is wrong is refused where it ends
+    ends("[CONST v @(vec (int -> int)) y; ECHO 1]", TYPE);
+    ends("[FUN f int [not:@(vec (int -> int))] 1; ECHO 1]", TYPE);
+    ends("[ECHO (len @(alloc (int -> int) 1))]", TYPE);
+    ends("[ECHO (len (alloc (int -> int) @y))]", TYPE);
+    ends("[@VAR v (vec int); ECHO 1]", TYPE);
+    ends("[PROC p [var @v:(vec int)] [ECHO 1]; ECHO 1]", TYPE);
+    ends("[ECHO @(nth (alloc bool 1) true)]", TYPE);
+    ends("[ECHO @(len 1)]", TYPE);
+    ends("[ECHO (len @(vset (alloc int 1) 0 true))]", TYPE);
 }

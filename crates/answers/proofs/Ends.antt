@@ -5,7 +5,7 @@ use mathlib.Core.Option.{some}
 use Prim.Native.Nat.{ℕ, _-_}
 use lib.Dec.{eqb}
 use borrow.Author.Tests.{eq-eqb, ne-eqb}
-use Rattle.language.specs.Answers.{FUEL, DEPTH, CELLS, BINDINGS, OUTPUT, RANGE, ZERO, UNSET, Stop, limit, error, stop-number, stopped, number-of}
+use Rattle.language.specs.Answers.{FUEL, DEPTH, CELLS, BINDINGS, OUTPUT, RANGE, ZERO, UNSET, SIZE, INDEX, Stop, limit, error, stop-number, stopped, number-of}
 use Rattle.machine.specs.Entries.{pick}
 use Rattle.machine.specs.Shown.{answerOf}
 use Rattle.machine.proofs.Whole.{Known, known-value, known-stop, known-none, stop-back}
@@ -30,6 +30,8 @@ stopped-meant (limit OUTPUT) p = refl
 stopped-meant (error RANGE) p = refl
 stopped-meant (error ZERO) p = refl
 stopped-meant (error UNSET) p = refl
+stopped-meant (error SIZE) p = refl
+stopped-meant (error INDEX) p = refl
 
 -- the answer is the end's, where it has one
 pub ended-meant : {e : Ending} → Known e → (e ≡ NoRule → ⊥) → answerOf e ≡ some (meant (ended e))
@@ -47,6 +49,8 @@ not-type (limit OUTPUT) = refl
 not-type (error RANGE) = refl
 not-type (error ZERO) = refl
 not-type (error UNSET) = refl
+not-type (error SIZE) = refl
+not-type (error INDEX) = refl
 
 -- so its counts are reported
 module _ (f : ℕ) (n : Counts) where
@@ -66,12 +70,12 @@ skip : {A : Type 0} (n k : ℕ) → (n ≡ k → ⊥) → (x : Unit {0} → A) (
 unfolding pick
 skip n k h x y = ap (λ t. pick t x y) (ne-eqb n k h)
 
-pub stopped-last : (n p : ℕ) → (n ≡ 20 → ⊥) → (n ≡ 21 → ⊥) → (n ≡ 22 → ⊥) → (n ≡ 23 → ⊥) → (n ≡ 24 → ⊥) → (n ≡ 25 → ⊥) → (n ≡ 26 → ⊥) → (n ≡ 27 → ⊥) →
-    «Type» 0 ≡ stopped-by n p
+pub stopped-last : (n p : ℕ) → (n ≡ 20 → ⊥) → (n ≡ 21 → ⊥) → (n ≡ 22 → ⊥) → (n ≡ 23 → ⊥) → (n ≡ 24 → ⊥) → (n ≡ 25 → ⊥) → (n ≡ 26 → ⊥) → (n ≡ 27 → ⊥) → (n ≡ 28 → ⊥) →
+    (n ≡ 29 → ⊥) → «Type» 0 ≡ stopped-by n p
 unfolding stopped-by
-stopped-last n p a b c d e f g h =
+stopped-last n p a b c d e f g h i j =
     sym
-    (skip n 20 a _ _ ∙ (skip n 21 b _ _ ∙ (skip n 22 c _ _ ∙ (skip n 23 d _ _ ∙ (skip n 24 e _ _ ∙ (skip n 25 f _ _ ∙ (skip n 26 g _ _ ∙ skip n 27 h _ _)))))))
+    (skip n 20 a _ _ ∙ (skip n 21 b _ _ ∙ (skip n 22 c _ _ ∙ (skip n 23 d _ _ ∙ (skip n 24 e _ _ ∙ (skip n 25 f _ _ ∙ (skip n 26 g _ _ ∙ (skip n 27 h _ _ ∙ (skip n 28 i _ _ ∙ skip n 29 j _ _)))))))))
 
 pub reported-refused : {a : Answer} {x : ℕ} (f : ℕ) (e : Ending) (n : Counts) {r : Report} → a ≡ ended e → x ≡ number-of (meant a) → x ≡ 9 → r ≡ refusal a → r ≡ reported f e n
 unfolding pick

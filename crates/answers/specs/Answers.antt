@@ -1,10 +1,10 @@
 -- What each of RUN's answers means: document 01's answer for each case.
 use Prim.Native.Nat.{ℕ}
-use Rattle.language.specs.Answers.{LENGTH, LIMIT, TABLE, BYTE, NUMBER, TOKENS, SYNTAX, LEVEL, TYPE, DOUBLE, FUEL, DEPTH, CELLS, BINDINGS, OUTPUT, RANGE, ZERO, UNSET, limit, error, done, refused, stopped}
+use Rattle.language.specs.Answers.{LENGTH, LIMIT, TABLE, BYTE, NUMBER, TOKENS, SYNTAX, LEVEL, TYPE, DOUBLE, FUEL, DEPTH, CELLS, BINDINGS, OUTPUT, RANGE, ZERO, UNSET, SIZE, INDEX, limit, error, done, refused, stopped}
 use Rattle.language.specs.Answers as language
 use Rattle.language.specs.Promises.{Told}
 use Rattle.answers.specs.declared.Answer.{Answer}
-use Rattle.answers.specs.declared.Answer.the-variants.{Done, Length, Limit, Table, Byte, Number, Tokens, Syntax, Level, «Type», Double, Fuel, Depth, Cells, Bindings, Output, Range, Zero, Unset}
+use Rattle.answers.specs.declared.Answer.the-variants.{Done, Length, Limit, Table, Byte, Number, Tokens, Syntax, Level, «Type», Double, Fuel, Depth, Cells, Bindings, Output, Range, Zero, Unset, Size, Index}
 use Rattle.answers.specs.declared.Report.{Report}
 
 abbrev pub meant : Answer → language.Answer
@@ -27,6 +27,8 @@ meant (Output p) = stopped (limit OUTPUT) p
 meant (Range p) = stopped (error RANGE) p
 meant (Zero p) = stopped (error ZERO) p
 meant (Unset p) = stopped (error UNSET) p
+meant (Size p) = stopped (error SIZE) p
+meant (Index p) = stopped (error INDEX) p
 
 abbrev pub said : Report → Told
 said r = record { answer = meant (r .answer); units = r .units; bindings = r .bindings; cells = r .cells; numbers = r .numbers }

@@ -7,7 +7,7 @@ use Rattle.machine.specs.declared.Ending.{Ending}
 use Rattle.machine.specs.declared.Ending.the-variants.{Value, Stop, NoRule}
 use Rattle.machine.specs.declared.Counts.{Counts}
 use Rattle.answers.specs.declared.Answer.{Answer}
-use Rattle.answers.specs.declared.Answer.the-variants.{Done, «Type», Fuel, Depth, Cells, Bindings, Output, Range, Zero, Unset}
+use Rattle.answers.specs.declared.Answer.the-variants.{Done, «Type», Fuel, Depth, Cells, Bindings, Output, Range, Zero, Unset, Size, Index}
 use Rattle.answers.specs.declared.Report.{Report}
 use Rattle.answers.specs.Answers.{meant, refusal}
 
@@ -22,6 +22,8 @@ stopped-by n p =
     pick (eqb n 25) (λ _. Range p) λ _.
     pick (eqb n 26) (λ _. Zero p) λ _.
     pick (eqb n 27) (λ _. Unset p) λ _.
+    pick (eqb n 28) (λ _. Size p) λ _.
+    pick (eqb n 29) (λ _. Index p) λ _.
     «Type» 0
 
 -- a state that no rule fits has no answer, and an accepted text never comes to one: it is refused where no node stands

@@ -26,6 +26,8 @@ pub fn say_name(answer: Answer) {
         Answer::Range(_) => lines::text(b"RANGE"),
         Answer::Zero(_) => lines::text(b"ZERO"),
         Answer::Unset(_) => lines::text(b"UNSET"),
+        Answer::Size(_) => lines::text(b"SIZE"),
+        Answer::Index(_) => lines::text(b"INDEX"),
     }
 }
 
@@ -66,6 +68,22 @@ fn say_tokens() {
     );
 }
 
+// One of the words of blocks of cells, which may be meant as a name.
+fn say_misplaced() {
+    lines::text(
+        b"this word is no name: vec begins a type, and alloc, nth, len and vset an expression, each right behind its (",
+    );
+}
+
+fn say_no_program() {
+    lines::text(
+        b"no program goes on with this word: look before it for a ; or a bracket that is missing or too many;\n",
+    );
+    lines::text(
+        b"a block ends with ECHO, SET, IF, WHILE or CALL, not with a definition, and nothing follows the last ]",
+    );
+}
+
 // At the text's end something is missing; anywhere else a word does not fit.
 fn say_syntax(text: &[u8], place: usize) {
     if text.len() <= place {
@@ -73,18 +91,20 @@ fn say_syntax(text: &[u8], place: usize) {
             b"the text ends before the program does: add what is missing, often a ] or a )",
         );
     } else {
-        lines::text(
-            b"no program goes on with this word: look before it for a ; or a bracket that is missing or too many;\n",
-        );
-        lines::text(
-            b"a block ends with ECHO, SET, IF, WHILE or CALL, not with a definition, and nothing follows the last ]",
-        );
+        match mark_at(text, place) {
+            VEC => say_misplaced(),
+            ALLOC => say_misplaced(),
+            NTH => say_misplaced(),
+            LEN => say_misplaced(),
+            VSET => say_misplaced(),
+            _ => say_no_program(),
+        }
     }
 }
 
 fn say_level() {
     lines::text(
-        b"this opens a 65th level: blocks, parentheses, abstractions and function types stand at most 64 deep;\n",
+        b"this opens a 65th level: blocks, parentheses, abstractions, function types and vecs stand at most 64 deep;\n",
     );
     lines::text(b"take an inner part out and give it a name");
 }
@@ -122,6 +142,16 @@ const OR: u8 = 22;
 
 const ADR: u8 = 26;
 
+const VEC: u8 = 29;
+
+const ALLOC: u8 = 30;
+
+const NTH: u8 = 31;
+
+const LEN: u8 = 32;
+
+const VSET: u8 = 33;
+
 // The number of a symbol or a key word, 0 for any other word.
 fn mark_of(found: Found) -> u8 {
     match found {
@@ -142,6 +172,12 @@ fn mark_of(found: Found) -> u8 {
             place: _,
         } => 0,
     }
+}
+
+fn mark_at(text: &[u8], place: usize) -> u8 {
+    let words = reader::two_words(text, place);
+    let first = words.first;
+    mark_of(first)
 }
 
 // The place past a word, or `at` where there is none.
@@ -205,6 +241,16 @@ fn say_type_of_name(next: u8) {
     }
 }
 
+fn say_type_of_alloc() {
+    lines::text(b"the T of (alloc T n) must be bool, int or a vec: no function fits in a cell;\n");
+    lines::text(b"and n, the block's size, must be an int");
+}
+
+fn say_type_of_vset() {
+    lines::text(b"(vset b i e) needs a block of cells first, then an int,\n");
+    lines::text(b"and then a value of the type that the block's cells have");
+}
+
 // What a parenthesis opens is told by the word behind it.
 fn say_type_inside(next: u8) {
     match next {
@@ -212,6 +258,13 @@ fn say_type_inside(next: u8) {
         AND => lines::text(b"(and a b) needs two bools"),
         OR => lines::text(b"(or a b) needs two bools"),
         ADR => lines::text(b"(adr x) needs a name that is a VAR or a var parameter here"),
+        VEC => lines::text(
+            b"the T of (vec T) must be bool, int or a vec: no function fits in a cell",
+        ),
+        ALLOC => say_type_of_alloc(),
+        NTH => lines::text(b"(nth b i) needs a block of cells first, and then an int"),
+        LEN => lines::text(b"(len b) needs a block of cells"),
+        VSET => say_type_of_vset(),
         _ => {
             lines::text(b"what stands first must be a function or an operator,\n");
             lines::text(
@@ -306,10 +359,27 @@ fn say_depth(depth: u64) {
     lines::text(b";\nlet the recursion go less deep, or count in a WHILE");
 }
 
-fn say_cells(cells: u64) {
+fn say_no_cell(cells: u64) {
     lines::text(b"no cell is left for this VAR: the run was given ");
     lines::count(cells);
     lines::text(b", and gives none back;\ndefine it outside the loop or the procedure, once");
+}
+
+fn say_few_cells(cells: u64) {
+    lines::text(b"too few cells are left for this block: the run was given ");
+    lines::count(cells);
+    lines::text(
+        b", and gives none back;\nmake it outside the loop or the procedure, once, or make it smaller",
+    );
+}
+
+// A VAR takes one cell, an alloc all of its block's.
+fn say_cells(text: &[u8], place: usize, cells: u64) {
+    if mark_at(text, place) == OPENING {
+        say_few_cells(cells);
+    } else {
+        say_no_cell(cells);
+    }
 }
 
 fn say_bindings(bindings: u64) {
@@ -334,8 +404,21 @@ fn say_zero() {
     lines::text(b"this divides by 0: test the divisor first");
 }
 
-fn say_unset() {
-    lines::text(b"this variable has no value yet: SET it before it is read");
+// A variable is read by its name, a block's element by an nth.
+fn say_unset(text: &[u8], place: usize) {
+    if mark_at(text, place) == OPENING {
+        lines::text(b"this element has no value yet: store one with vset before it is read");
+    } else {
+        lines::text(b"this variable has no value yet: SET it before it is read");
+    }
+}
+
+fn say_size() {
+    lines::text(b"a block's size is below 0 here: test it first");
+}
+
+fn say_index() {
+    lines::text(b"the block has no element with this index: they go from 0 to one below its len");
 }
 
 pub fn say_sentence(text: &[u8], limits: Limits, answer: Answer) {
@@ -354,11 +437,13 @@ pub fn say_sentence(text: &[u8], limits: Limits, answer: Answer) {
         Answer::Double(_) => say_double(text, place),
         Answer::Fuel(_) => say_fuel(limits.fuel),
         Answer::Depth(_) => say_depth(limits.depth),
-        Answer::Cells(_) => say_cells(limits.cells),
+        Answer::Cells(_) => say_cells(text, place, limits.cells),
         Answer::Bindings(_) => say_bindings(limits.bindings),
         Answer::Output(_) => say_output(limits.output),
         Answer::Range(_) => say_range(),
         Answer::Zero(_) => say_zero(),
-        Answer::Unset(_) => say_unset(),
+        Answer::Unset(_) => say_unset(text, place),
+        Answer::Size(_) => say_size(),
+        Answer::Index(_) => say_index(),
     }
 }

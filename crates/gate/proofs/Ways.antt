@@ -7,7 +7,7 @@ use native.Mathlib.Omega.{arith}
 use lib.Dec.{leb}
 use lib.IntN.{ℤ}
 use lib.ListN.{length, take}
-use Rattle.language.specs.Answers.{LENGTH, LIMIT, TABLE, BYTE, NUMBER, TOKENS, SYNTAX, LEVEL, TYPE, DOUBLE, FUEL, DEPTH, CELLS, BINDINGS, OUTPUT, RANGE, ZERO, UNSET, limit, error, done, refused, stopped, number-of}
+use Rattle.language.specs.Answers.{LENGTH, LIMIT, TABLE, BYTE, NUMBER, TOKENS, SYNTAX, LEVEL, TYPE, DOUBLE, FUEL, DEPTH, CELLS, BINDINGS, OUTPUT, RANGE, ZERO, UNSET, SIZE, INDEX, limit, error, done, refused, stopped, number-of}
 use Rattle.language.specs.Answers as language
 use Rattle.language.specs.Limits.{Limits, Admitted}
 use Rattle.language.specs.Promises.{text-bytes, Check, Ran, all-large, Run, too-much}
@@ -49,6 +49,8 @@ number-done (stopped (limit OUTPUT) p) h = absurd (omega arith)
 number-done (stopped (error RANGE) p) h = absurd (omega arith)
 number-done (stopped (error ZERO) p) h = absurd (omega arith)
 number-done (stopped (error UNSET) p) h = absurd (omega arith)
+number-done (stopped (error SIZE) p) h = absurd (omega arith)
+number-done (stopped (error INDEX) p) h = absurd (omega arith)
 
 module _ (L : Limits) (text tree words stack scopes notes waiting bindings cells : List ℕ) (output : List ℤ) where
   abbrev Promise : Ran → Type 0

@@ -9,7 +9,7 @@ use lib.Dec.{leb, ltb}
 use lib.IntN.{ℤ}
 use lib.ListN.{length, take, drop}
 use borrow.Author.Tests.{leb-true, leb-false, le-leb, lt-leb, lt-ltb, le-ltb}
-use Rattle.language.specs.Answers.{LENGTH, LIMIT, TABLE, BYTE, NUMBER, TOKENS, SYNTAX, LEVEL, TYPE, DOUBLE, FUEL, DEPTH, CELLS, BINDINGS, OUTPUT, RANGE, ZERO, UNSET, limit, error, Answer, done, refused, stopped, number-of}
+use Rattle.language.specs.Answers.{LENGTH, LIMIT, TABLE, BYTE, NUMBER, TOKENS, SYNTAX, LEVEL, TYPE, DOUBLE, FUEL, DEPTH, CELLS, BINDINGS, OUTPUT, RANGE, ZERO, UNSET, SIZE, INDEX, limit, error, Answer, done, refused, stopped, number-of}
 use Rattle.language.specs.Limits.{Limits, greatest-limits}
 use Rattle.language.specs.Promises.{Lent, large-enough, tree-table, all-large, Ran, Run, too-long, too-much, too-small, not-run, ran}
 use Rattle.language.specs.Rules.{run}
@@ -74,6 +74,8 @@ up-to-last (stopped (limit OUTPUT) q) e = refl
 up-to-last (stopped (error RANGE) q) e = refl
 up-to-last (stopped (error ZERO) q) e = refl
 up-to-last (stopped (error UNSET) q) e = refl
+up-to-last (stopped (error SIZE) q) e = refl
+up-to-last (stopped (error INDEX) q) e = refl
 
 none-charged : (p u : ℕ) (a : Answer) → refused-answer a ≡ true → charged p a u ≡ none
 none-charged p u done e = differ e refl

@@ -1,8 +1,9 @@
 use std::error::Error;
 use std::fmt;
 
-/// Why a text or a call was refused. The numbers are document 01's.
+/// Why a text or a call was refused. The numbers are document 01's, and later ones may be added.
 #[derive(Clone, Copy, Debug, PartialEq, Eq, Hash)]
+#[non_exhaustive]
 #[repr(u8)]
 pub enum Code {
     /// The text is over 16,384 bytes.
@@ -85,15 +86,16 @@ impl fmt::Display for Refusal {
 
 impl Error for Refusal {}
 
-/// Why a run ended before its end. The numbers are document 01's.
+/// Why a run ended before its end. The numbers are document 01's, and later ones may be added.
 #[derive(Clone, Copy, Debug, PartialEq, Eq, Hash)]
+#[non_exhaustive]
 #[repr(u8)]
 pub enum Stop {
     /// No unit was left for what was to be entered.
     Fuel = 20,
     /// Too many were entered and unended.
     Depth = 21,
-    /// No cell was left for a VAR.
+    /// Fewer cells were left than a VAR or an alloc takes.
     Cells = 22,
     /// Fewer bindings were left than a definition or a call makes.
     Bindings = 23,
@@ -103,8 +105,12 @@ pub enum Stop {
     Range = 25,
     /// A division by 0.
     Zero = 26,
-    /// A variable was read before it was set.
+    /// A variable or an element of a block was read before it was set.
     Unset = 27,
+    /// A block's size is below 0.
+    Size = 28,
+    /// An index is below 0, or not below its block's length.
+    Index = 29,
 }
 
 impl Stop {
@@ -113,7 +119,7 @@ impl Stop {
         self as u64
     }
 
-    /// The stop of a number, none where it is not 20 to 27.
+    /// The stop of a number, none where it is not 20 to 29.
     pub const fn from_number(number: u64) -> Option<Stop> {
         Some(match number {
             20 => Stop::Fuel,
@@ -124,6 +130,8 @@ impl Stop {
             25 => Stop::Range,
             26 => Stop::Zero,
             27 => Stop::Unset,
+            28 => Stop::Size,
+            29 => Stop::Index,
             _ => return None,
         })
     }
@@ -139,12 +147,14 @@ impl fmt::Display for Stop {
         f.write_str(match self {
             Stop::Fuel => "no unit of fuel is left",
             Stop::Depth => "this would go deeper than the limit",
-            Stop::Cells => "no cell is left for this variable",
+            Stop::Cells => "too few cells are left for this variable or block",
             Stop::Bindings => "too few bindings are left for this definition or call",
             Stop::Output => "as many numbers are out as the limit lets",
             Stop::Range => "the result is not between -9,223,372,036,854,775,808 and 9,223,372,036,854,775,807",
             Stop::Zero => "this divides by 0",
-            Stop::Unset => "this variable is read before it is set",
+            Stop::Unset => "this variable or element is read before it is set",
+            Stop::Size => "this block's size is below 0",
+            Stop::Index => "the block has no element with this index",
         })
     }
 }

@@ -18,6 +18,7 @@ pub struct Gate {
 
 /// What a run did.
 #[derive(Clone, Copy, Debug, PartialEq, Eq)]
+#[non_exhaustive]
 pub struct Report<'a> {
     /// How it ended.
     pub end: End,

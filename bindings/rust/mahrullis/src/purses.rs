@@ -102,6 +102,7 @@ impl Iterator for Steps<'_> {
 
 /// What a run from a purse did. Its numbers are among its steps, behind the charge's mark.
 #[derive(Debug)]
+#[non_exhaustive]
 pub struct PurseRun<'a> {
     /// How it ended.
     pub end: End,

@@ -1,7 +1,7 @@
 //! The three jobs over tables that the caller owns, of any lengths: for who keeps the memory, or wants smaller tables for smaller limits. [`Gate`](crate::Gate) is
 //! easier.
 //!
-//! Each function answers document 01's number: 0 accepted or done, 1 to 10 a refusal, 20 to 27 a stop. A table that is shorter than it must be is answered 3
+//! Each function answers document 01's number: 0 accepted or done, 1 to 10 a refusal, 20 to 29 a stop. A table that is shorter than it must be is answered 3
 //! (TABLE), never a fault. What is left in each table after each answer stands in the repository's `docs/TABLES.md` and in `include/mahrullis.h`.
 
 use crate::{ffi, Limits};
@@ -65,7 +65,7 @@ pub fn check(text: &[u8], tables: Common<'_>, report: &mut [u64]) -> u64 {
     ffi::check(text, tables, report)
 }
 
-/// RUN: answers 0, 1 to 10 or 20 to 27 and writes the report's first [`REPORT_ENTRIES`]. A shorter report is answered 3 before anything else.
+/// RUN: answers 0, 1 to 10 or 20 to 29 and writes the report's first [`REPORT_ENTRIES`]. A shorter report is answered 3 before anything else.
 pub fn run(text: &[u8], limits: Limits, tables: Common<'_>, running: Running<'_>, report: &mut [u64]) -> u64 {
     let Limits { fuel, depth, bindings, cells, output } = limits;
     ffi::run(text, [fuel, depth, bindings, cells, output], tables, running, report)

@@ -1,8 +1,9 @@
 use std::fmt;
 use std::iter::FusedIterator;
 
-/// What a node is. The numbers are document 01's.
+/// What a node is. The numbers are document 01's, and later ones may be added.
 #[derive(Clone, Copy, Debug, PartialEq, Eq, Hash)]
+#[non_exhaustive]
 #[repr(u8)]
 pub enum Kind {
     /// `[` commands `]`
@@ -55,9 +56,19 @@ pub enum Kind {
     Abstraction = 24,
     /// `(adr x)`
     Adr = 25,
+    /// `(vec T)`, the type of blocks of cells
+    Vec = 26,
+    /// `(alloc T n)`
+    Alloc = 27,
+    /// `(nth b i)`
+    Nth = 28,
+    /// `(len b)`
+    Len = 29,
+    /// `(vset b i e)`
+    Vset = 30,
 }
 
-const KINDS: [Kind; 25] = [
+const KINDS: [Kind; 30] = [
     Kind::Block,
     Kind::Const,
     Kind::Fun,
@@ -83,6 +94,11 @@ const KINDS: [Kind; 25] = [
     Kind::Application,
     Kind::Abstraction,
     Kind::Adr,
+    Kind::Vec,
+    Kind::Alloc,
+    Kind::Nth,
+    Kind::Len,
+    Kind::Vset,
 ];
 
 impl Kind {
@@ -91,7 +107,7 @@ impl Kind {
         self as u64
     }
 
-    /// The kind of a number, none where it is not 1 to 25.
+    /// The kind of a number, none where it is not 1 to 30.
     pub fn from_number(number: u64) -> Option<Kind> {
         let before = usize::try_from(number).ok()?.checked_sub(1)?;
         KINDS.get(before).copied()
@@ -167,7 +183,7 @@ impl<'a> Node<'a> {
 
     /// What it is.
     pub fn kind(self) -> Kind {
-        Kind::from_number(self.word() >> 48).expect("a tree's kinds are 1 to 25")
+        Kind::from_number(self.word() >> 48).expect("a tree's kinds are 1 to 30")
     }
 
     /// The byte of the text at which it starts; a parameter's is its name's.

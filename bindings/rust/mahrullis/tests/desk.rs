@@ -64,6 +64,30 @@ fn scripts_of_the_desk() {
 }
 
 #[test]
+fn blocks_of_cells() {
+    let gate = &mut Gate::new();
+    let block = b"[CONST b (vec int) (alloc int 3); ECHO (len b); ECHO (nth (vset b 2 7) 2); ECHO (nth b 2)]";
+    expect(gate, block, MOST, done(17, 1, 3, &[3, 7, 7]));
+    expect(gate, b"[ECHO (len (alloc bool 0))]", MOST.with_cells(0), done(4, 0, 0, &[0]));
+    expect(gate, b"[ECHO (len (alloc int 3))]", MOST.with_cells(2), stopped(Stop::Cells, 11, 4, 0, 0));
+    expect(gate, b"[ECHO (len (alloc int -1))]", MOST.with_cells(0), stopped(Stop::Size, 11, 4, 0, 0));
+    expect(gate, b"[ECHO (nth (alloc int 3) 3)]", MOST, stopped(Stop::Index, 6, 5, 0, 3));
+    expect(gate, b"[ECHO (len (vset (alloc int 3) -1 0))]", MOST, stopped(Stop::Index, 11, 7, 0, 3));
+    expect(gate, b"[ECHO (nth (alloc int 3) 0)]", MOST, stopped(Stop::Unset, 6, 5, 0, 3));
+    expect(gate, b"[ECHO (len (vset (alloc int 1) 9 (div 1 0)))]", MOST, stopped(Stop::Zero, 33, 9, 0, 1));
+    expect(gate, b"[CONST v (vec (int -> int)) y; ECHO 1]", MOST, refused(Code::Type, 9));
+    expect(gate, b"[ECHO (len (alloc (int -> int) 1))]", MOST, refused(Code::Type, 11));
+    expect(gate, b"[VAR v (vec int); ECHO 1]", MOST, refused(Code::Type, 1));
+    expect(gate, b"[ECHO (len 1)]", MOST, refused(Code::Type, 6));
+    expect(gate, b"[CONST len int 1; ECHO 1]", MOST, refused(Code::Syntax, 7));
+
+    let text = b"[ECHO (len (nth (vset (alloc (vec int) 1) 0 (alloc int 2)) 0))]";
+    let kinds: Vec<Kind> = gate.check(text).unwrap().nodes().map(|node| node.kind()).collect();
+    let made = [Kind::Alloc, Kind::Vec, Kind::Int, Kind::Number, Kind::Number, Kind::Alloc, Kind::Int, Kind::Number, Kind::Number];
+    assert_eq!(kinds, [&[Kind::Block, Kind::Echo, Kind::Len, Kind::Nth, Kind::Vset][..], &made].concat());
+}
+
+#[test]
 fn lengths_tokens_and_levels() {
     let gate = &mut Gate::new();
     let padded = |length: usize| {
@@ -143,8 +167,8 @@ fn names_are_parts_of_the_text() {
 fn numbers_and_words_of_the_answers() {
     for number in 0..100 {
         assert!(Code::from_number(number).map_or(!(1..=10).contains(&number), |code| code.number() == number));
-        assert!(Stop::from_number(number).map_or(!(20..=27).contains(&number), |stop| stop.number() == number));
-        assert!(Kind::from_number(number).map_or(!(1..=25).contains(&number), |kind| kind.number() == number));
+        assert!(Stop::from_number(number).map_or(!(20..=29).contains(&number), |stop| stop.number() == number));
+        assert!(Kind::from_number(number).map_or(!(1..=30).contains(&number), |kind| kind.number() == number));
     }
     assert!(Stop::Output.is_limit() && !Stop::Range.is_limit());
     let refusal = Refusal { code: Code::Syntax, place: 1 };

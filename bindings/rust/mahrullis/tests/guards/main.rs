@@ -205,7 +205,7 @@ impl Tables {
         assert!(count >= 3 && tree[0] & 0xffff_ffff_0000_ffff == 1 << 48, "the root is a block at 0 without a sibling");
         for (i, word) in tree[..count].iter().enumerate() {
             let [kind, place, child, sibling] = [48, 32, 16, 0].map(|low| (word >> low & 0xffff) as usize);
-            assert!((1..=25).contains(&kind) && place < text.len(), "node {i}");
+            assert!((1..=30).contains(&kind) && place < text.len(), "node {i}");
             assert!(i == 0 || (tree[i - 1] >> 32 & 0xffff) < place as u64, "node {i}: text order");
             assert!(child == 0 || (child == i + 1 && child < count), "node {i}: child");
             assert!(sibling == 0 || (i < sibling && sibling < count), "node {i}: sibling");
@@ -227,7 +227,8 @@ impl Tables {
             Some(limits) if answer == 0 || answer >= 20 => {
                 assert!(units <= limits.fuel && bindings <= limits.bindings && cells <= limits.cells && numbers <= limits.output);
                 assert!(answer != 20 || units == limits.fuel);
-                assert!(answer != 22 || cells == limits.cells);
+                // an alloc may want more than one
+                assert!(answer != 22 || text[place as usize] == b'(' || cells == limits.cells);
                 assert!(answer != 24 || numbers == limits.output);
             }
             _ => assert_eq!([units, bindings, cells, numbers], [0; 4]),
@@ -238,7 +239,7 @@ impl Tables {
     /// What CHECK, or RUN with its limits, owes after an answer, put into the images. `early` is the answer 1 to 3 where one must be given, else 0.
     fn expect(&mut self, answer: u64, early: u64, text: &[u8], limits: Option<Limits>) {
         match early {
-            0 => assert!(matches!(answer, 0 | 4..=10) || (limits.is_some() && matches!(answer, 20..=27)), "an answer of this job: {answer}"),
+            0 => assert!(matches!(answer, 0 | 4..=10) || (limits.is_some() && matches!(answer, 20..=29)), "an answer of this job: {answer}"),
             _ => assert_eq!(answer, early),
         }
         if self.report.is_short() {
@@ -347,7 +348,7 @@ fn only_what_is_promised_changes() {
     let random = &mut Random(SEED);
     let mut tables = Tables::new(random);
     let mut gate = Gate::new();
-    let mut seen = [[0; 28]; 3];
+    let mut seen = [[0; 30]; 3];
     for input in 0..INPUTS {
         let text = random_text(random);
         let before = text.clone();
@@ -363,7 +364,7 @@ fn only_what_is_promised_changes() {
         seen[job][answer as usize] += 1;
     }
     println!("seed {SEED}, {INPUTS} inputs, no entry changed that may not");
-    let may = [vec![0, 1, 3, 4, 5, 6, 7, 8, 9, 10], (0..=10).chain(20..=27).collect(), vec![0, 3]];
+    let may = [vec![0, 1, 3, 4, 5, 6, 7, 8, 9, 10], (0..=10).chain(20..=29).collect(), vec![0, 3]];
     for (job, name) in ["CHECK", "RUN", "NAME"].iter().enumerate() {
         let counts: Vec<String> = may[job].iter().map(|answer| format!("{answer}: {}", seen[job][*answer])).collect();
         println!("{name} {}", counts.join(", "));

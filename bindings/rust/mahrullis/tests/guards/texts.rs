@@ -27,7 +27,7 @@ impl Random {
 }
 
 /// The five tariffs of examples/, the scripts of document 01, and others that end in each way.
-const SCRIPTS: [&str; 36] = [
+const SCRIPTS: [&str; 42] = [
     include_str!("../../../../../examples/bands.aps"),
     include_str!("../../../../../examples/daycap.aps"),
     include_str!("../../../../../examples/fares.aps"),
@@ -63,18 +63,24 @@ const SCRIPTS: [&str; 36] = [
     "[VAR b bool; SET b (or true false); WHILE b [ECHO 7; SET b (not b)]]",
     "[FUN f (int -> int) [a:int] [b:int] (sub a b); ECHO ((f 9) 4)]",
     "[FUN fare int [zones:int, peak:bool, zones:int] (mul zones 95); ECHO (fare 1 true 2)]",
+    "[CONST b (vec int) (alloc int 3); ECHO (len b); ECHO (nth (vset b 2 7) 2); ECHO (nth b 0)]",
+    "[CONST b (vec (vec bool)) (alloc (vec bool) 2); IF (nth (nth (vset b 1 (vset (alloc bool 1) 0 true)) 1) 0) [ECHO 1] [ECHO 0]]",
+    "[FUN b (vec int) [n:int] (alloc int n); ECHO (len (b 4)); ECHO (len (b -1))]",
+    "[VAR i int; SET i 0; CONST b (vec int) (alloc int 3); WHILE true [SET i (add 1 (nth (vset b i i) i))]]",
+    "[PROC REC p [b:(vec int)] [CALL p (alloc int (len b))]; CALL p (alloc int 700)]",
+    "[FUN f int [b:(vec (int -> int))] 1; ECHO 1]",
     "12ab 1-2 -> - > 007 VARx var adr\t(adr",
 ];
 
 #[rustfmt::skip]
-const WORDS: [&str; 52] = [
+const WORDS: [&str; 59] = [
     "[", "]", "(", ")", ";", ":", ",", "*", "->", "CONST", "FUN", "REC", "VAR", "PROC", "ECHO", "SET", "IF", "WHILE", "CALL", "if", "and", "or", "bool", "int", "var",
     "adr", "true", "false", "not", "eq", "lt", "add", "sub", "mul", "div", "x", "y", "f", "n", "p", "0", "1", "-1", "42", "9223372036854775807", "-9223372036854775808", "9223372036854775808",
-    "ECHO 1;", "[ECHO x]", "(add x 1)", "[n:int]", "(int -> int)",
+    "ECHO 1;", "[ECHO x]", "(add x 1)", "[n:int]", "(int -> int)", "vec", "alloc", "nth", "len", "vset", "(vec int)", "(alloc int 2)",
 ];
 
 /// In this order they hold; where one is left out, what needs it is a TYPE.
-const DEFINITIONS: [&str; 11] = [
+const DEFINITIONS: [&str; 12] = [
     "CONST k int 7; ",
     "VAR x int; ",
     "VAR b bool; ",
@@ -84,11 +90,12 @@ const DEFINITIONS: [&str; 11] = [
     "PROC REC q [n:int] [VAR c int; SET c n; ECHO c; IF (lt 0 n) [CALL q (sub c 1)] [ECHO 0]]; ",
     "FUN h int [t:(int -> int), n:int] (t (t n)); ",
     "FUN w int [a:int, b:int, c:int, d:int] (sub (add a b) (add c d)); ",
+    "CONST v (vec int) (alloc int k); ",
     "SET x 3; ",
     "SET b true; ",
 ];
 
-const STATEMENTS: [&str; 20] = [
+const STATEMENTS: [&str; 25] = [
     "SET x 3",
     "SET x (add x 1)",
     "ECHO x",
@@ -109,6 +116,11 @@ const STATEMENTS: [&str; 20] = [
     "ECHO (w 1 x k (g 2))",
     "IF (or b (lt x 2)) [VAR y int; ECHO y] [ECHO (sub 0 x)]",
     "ECHO ([a:int, b:int] (mul a b) x k)",
+    "ECHO (len (vset v x k))",
+    "ECHO (nth v 3)",
+    "ECHO (nth (vset v 0 x) 0)",
+    "ECHO (len (alloc bool (sub k x)))",
+    "WHILE (lt x 9) [SET x (add (nth (vset v x x) x) 1)]",
 ];
 
 fn noise(random: &mut Random) -> Vec<u8> {
