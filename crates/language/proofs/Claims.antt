@@ -16,7 +16,7 @@ use Rattle.language.specs.Typing.{Typable}
 use Rattle.language.specs.Rules.{stop, no-rule, Outcome, ok, halt, bind, need, within, level, run}
 use Rattle.language.specs.Outcome.{end-of}
 use Rattle.language.specs.Promises.{Verdict, typed}
-use Rattle.language.specs.Claims.{AcceptedExactly, OneVerdict, OneTree, OneLevels, TreeFits, InTextOrder, TypedOrRefused, UniqueTypes, Levels128, NoRule, NeverStuck, EndsByTheTable, SameUnderLargerLimits, NumbersBegin, CountsInLimits, LimitIsUsedUp, WhileRule, NoRuleIsReached, OneCheck, OneRun, DeskHolds, NothingGivenBack, CheckCarriesNothingOver, RunCarriesNothingOver, RoundsDown, AllocIsFresh, BlocksApart, StoresGoToCells}
+use Rattle.language.specs.Claims.{AcceptedExactly, OneVerdict, OneTree, OneLevels, TreeFits, InTextOrder, TypedOrRefused, UniqueTypes, Levels128, NoRule, NeverStuck, EndsByTheTable, SameUnderLargerLimits, NumbersBegin, CountsInLimits, LimitIsUsedUp, UnsetNamesItsCell, WhileRule, NoRuleIsReached, OneCheck, OneRun, DeskHolds, NothingGivenBack, CheckCarriesNothingOver, RunCarriesNothingOver, RoundsDown, AllocIsFresh, BlocksApart, StoresGoToCells}
 use Rattle.language.proofs.reading.Shown.{one-tree, levels-once, room, in-text-order}
 use Rattle.language.proofs.typing.Unique.{unique-types}
 use Rattle.language.proofs.typing.Judged.{one-verdict}
@@ -24,7 +24,7 @@ use Rattle.language.proofs.typing.Levels128.{types-fit-128}
 use Rattle.language.proofs.typing.Depths.{fits-64}
 use Rattle.language.proofs.running.Sound.{sound}
 use Rattle.language.proofs.running.Stable.{same-under-larger-limits, numbers-begin}
-use Rattle.language.proofs.running.Counts.{counts-in-limits, limit-is-used-up}
+use Rattle.language.proofs.running.Counts.{counts-in-limits, limit-is-used-up, unset-names-its-cell}
 use Rattle.language.proofs.running.Rounds.{while-rule}
 use Rattle.language.proofs.running.Kept.{nothing-given-back}
 use Rattle.language.proofs.running.Quotients.{rounds-down}
@@ -96,6 +96,9 @@ counts-in-limits-claim = counts-in-limits
 
 pub limit-is-used-up-claim : LimitIsUsedUp
 limit-is-used-up-claim = limit-is-used-up
+
+pub unset-names-its-cell-claim : UnsetNamesItsCell
+unset-names-its-cell-claim = unset-names-its-cell
 
 pub while-rule-claim : WhileRule
 while-rule-claim = while-rule

@@ -8,7 +8,9 @@ pub data LimitStop : Type 0 where  -- a run is stopped by a limit (20 to 24)
   FUEL DEPTH CELLS BINDINGS OUTPUT : LimitStop
 
 pub data ErrorStop : Type 0 where  -- a run is stopped by an error of the script (25 to 29)
-  RANGE ZERO UNSET SIZE INDEX : ErrorStop
+  RANGE ZERO : ErrorStop
+  UNSET : (made : ℕ) → ErrorStop  -- with the place of the VAR or alloc that made the cell (request 7)
+  SIZE INDEX : ErrorStop
 
 pub data Stop : Type 0 where
   limit : LimitStop → Stop
@@ -36,7 +38,7 @@ stop-number =
       | limit OUTPUT ↦ 24
       | error RANGE ↦ 25
       | error ZERO ↦ 26
-      | error UNSET ↦ 27
+      | error (UNSET m) ↦ 27
       | error SIZE ↦ 28
       | error INDEX ↦ 29
     ]
@@ -46,3 +48,9 @@ number-of = elim [ done ↦ 0 | refused r p ↦ refusal-number r | stopped w p �
 
 abbrev pub place-of : Answer → ℕ
 place-of = elim [ done ↦ 0 | refused r p ↦ p | stopped w p ↦ p ]
+
+abbrev pub made-by : ErrorStop → ℕ
+made-by = elim [ RANGE ↦ 0 | ZERO ↦ 0 | UNSET m ↦ m | SIZE ↦ 0 | INDEX ↦ 0 ]
+
+abbrev pub made-of : Answer → ℕ  -- UNSET's second place, where the cell was made; every other answer has 0 there
+made-of = elim [ done ↦ 0 | refused r p ↦ 0 | stopped (limit l) p ↦ 0 | stopped (error x) p ↦ made-by x ]

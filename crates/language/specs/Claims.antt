@@ -3,7 +3,7 @@ use Rattle.language.specs.Library.{_≡_, _↔_, _⊎_, ℕ, zero, suc, 
 use lib.ListN.{take}
 use Rattle.language.specs.Syntax.{Name, at, TypeTree, Expr, num, name, if-expr, and, or, app, abs, alloc, nth-expr, len, vset, ExprP, val, adr, last, Def, var, Stat, echo, set, if-stat, while, call, Block, block}
 use Rattle.language.specs.Bytes.{bytesOf}
-use Rattle.language.specs.Answers.{Refusal, FUEL, DEPTH, CELLS, BINDINGS, OUTPUT, Stop, limit, error, done, stopped, Result, fine}
+use Rattle.language.specs.Answers.{Refusal, FUEL, DEPTH, CELLS, BINDINGS, OUTPUT, RANGE, ZERO, UNSET, SIZE, INDEX, Stop, limit, error, done, stopped, Result, fine}
 use Rattle.language.specs.Numbers.{quotient}
 use Rattle.language.specs.Words.{Word, wordsOf, most}
 use Rattle.language.specs.Grammar.{BLOCK, Reads}
@@ -14,7 +14,7 @@ use Rattle.language.specs.Types.{Ty, base, fn, vec-of, Tys, tnil, tcons,
 use Rattle.language.specs.Typing.{HasE, Typable}
 use Rattle.language.specs.Order.{JudgedNode, expr-node, adr-node, vec-node, param-node, single-node, def-node, stat-node, nodes-block, TypeRefused}
 use Rattle.language.specs.Limits.{Limits, greatest-limits, _⊑_, Admitted}
-use Rattle.language.specs.Rules.{Val, inA, inB, Env, bound, State, stop, no-rule, Outcome, ok, halt, bind, need, branch, enter, look, nth, as-truth, Level, in-block, alloc-rule, expr-rule, arg-rule, def-rule, stat-rule, level, run}
+use Rattle.language.specs.Rules.{Val, inA, inB, Env, bound, State, stop, no-rule, Outcome, ok, halt, bind, need, branch, enter, look, nth, fresh, as-truth, Level, in-block, alloc-rule, expr-rule, arg-rule, def-rule, stat-rule, level, run}
 use Rattle.language.specs.Outcome.{state-of, end-of}
 use Rattle.language.specs.Promises.{Verdict, text-bytes, tree-words, Lent, tree-table, large-enough, Checked, Check, Ran, all-large, Run}
 use Rattle.language.specs.Desk.{AllHold, desk}
@@ -132,6 +132,20 @@ UsedUp L (halt (stop (limit OUTPUT)) p s) = length (s .numbers) ≡ L .output
 UsedUp L (halt (stop (error x)) p s) = Unit {0}
 UsedUp L (halt no-rule p s) = Unit {0}
 
+-- where UNSET stops a run, a cell that its second place made is there, and is unset
+abbrev pub NamesCell : Stop → State → Type 0
+NamesCell (limit l) s = Unit {0}
+NamesCell (error RANGE) s = Unit {0}
+NamesCell (error ZERO) s = Unit {0}
+NamesCell (error (UNSET m)) s = (a : ℕ) × (nth (s .cells) a ≡ some (fresh m))
+NamesCell (error SIZE) s = Unit {0}
+NamesCell (error INDEX) s = Unit {0}
+
+abbrev pub UnsetCell : Outcome (Unit {0}) → Type 0
+UnsetCell (ok a s) = Unit {0}
+UnsetCell (halt (stop w) p s) = NamesCell w s
+UnsetCell (halt no-rule p s) = Unit {0}
+
 -- No accepted text reaches a state that no rule fits, under any limits.
 abbrev pub NeverStuck : Type 0
 NeverStuck = (s : List ℕ) (b : Block) → Verdict s (fine b) → (L : Limits) → ¬ NoRule (run L b)
@@ -156,6 +170,10 @@ CountsInLimits = (L : Limits) (b : Block) → InLimits L (state-of (run L b))
 -- FUEL and OUTPUT are given only where the limit is used up: so the count that makes WHILE structural never ends a run.
 abbrev pub LimitIsUsedUp : Type 0
 LimitIsUsedUp = (L : Limits) (b : Block) → UsedUp L (run L b)
+
+-- UNSET's second place is where a cell was made that is unset.
+abbrev pub UnsetNamesItsCell : Type 0
+UnsetNamesItsCell = (L : Limits) (b : Block) → UnsetCell (run L b)
 
 -- 000's (LOOP0) and (LOOP1): after a round the WHILE is entered anew, at its own depth.
 abbrev pub WhileRule : Type 0

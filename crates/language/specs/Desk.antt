@@ -36,7 +36,7 @@ desk =
     case "[ECHO (add 1 2)]" (limited 3 200 4096 4096 4096) (ends (stopped (limit FUEL) 13) 3 0 0 []) ∷
     case "[ECHO 1]" (limited 1000000 1 4096 4096 4096) (ends (stopped (limit DEPTH) 6) 2 0 0 []) ∷
     case "[CONST x int 0; SET x 42]" greatest-limits (refusal-report TYPE 16) ∷
-    case "[VAR x int; ECHO x]" greatest-limits (ends (stopped (error UNSET) 17) 3 1 1 []) ∷
+    case "[VAR x int; ECHO x]" greatest-limits (ends (stopped (error (UNSET 1)) 17) 3 1 1 []) ∷
     case "[ECHO (div 1 0)]" greatest-limits (ends (stopped (error ZERO) 6) 4 0 0 []) ∷
     case "[ECHO (div -7 2)]" greatest-limits (ends done 4 0 0 (negsuc 3 ∷ [])) ∷
     case "[]" greatest-limits (refusal-report SYNTAX 1) ∷

@@ -25,11 +25,15 @@ mutual
     empty : Env
     bound : Name → Val → Env → Env
 
--- σ and ω with what is counted: units and bindings taken; the cells taken and what stands in each, if it is set; the numbers put out, oldest first
+pub record Cell : Type 0 where  -- a cell: the place of the VAR or alloc that made it (request 7), and what stands in it, if it is set
+  pub made : ℕ
+  pub holds : Option Val
+
+-- σ and ω with what is counted: units and bindings taken; the cells taken; the numbers put out, oldest first
 pub record State : Type 0 where
   pub units : ℕ
   pub bindings : ℕ
-  pub cells : List (Option Val)
+  pub cells : List Cell
   pub numbers : List ℤ
 
 pub data Why : Type 0 where  -- why a run ends early
@@ -70,7 +74,7 @@ take-unit s = record { units = suc (s .units); bindings = s .bindings; cells = s
 abbrev pub take-bindings : ℕ → State → State
 take-bindings n s = record { units = s .units; bindings = n + s .bindings; cells = s .cells; numbers = s .numbers }
 
-abbrev pub with-cells : List (Option Val) → State → State
+abbrev pub with-cells : List Cell → State → State
 with-cells c s = record { units = s .units; bindings = s .bindings; cells = c; numbers = s .numbers }
 
 abbrev pub put-out : ℤ → State → State
@@ -107,9 +111,12 @@ abbrev pub behind : {A : Type 0} → A → Option (List A) → Option (List A)
 behind c none = none
 behind c (some cs) = some (c ∷ cs)
 
-abbrev pub store : List (Option Val) → ℕ → Val → Option (List (Option Val))  -- σ[a := v], for an a that is taken
+abbrev pub fresh : ℕ → Cell  -- a cell that the VAR or alloc at p makes: it is unset
+fresh p = record { made = p; holds = none }
+
+abbrev pub store : List Cell → ℕ → Val → Option (List Cell)  -- σ[a := v], for an a that is taken
 store [] a v = none
-store (c ∷ cs) zero v = some (some v ∷ cs)
+store (c ∷ cs) zero v = some (record { made = c .made; holds = some v } ∷ cs)
 store (c ∷ cs) (suc a) v = behind c (store cs a v)
 
 abbrev pub as-number : Val → Option ℤ
@@ -183,9 +190,9 @@ unfoldable pub give : Computed → ℕ → State → Outcome Val
 give (amount n) p s = ok (inZ n) s
 give (fails x) p s = halt (stop (error x)) p s
 
-unfoldable pub give-cell : Option Val → ℕ → State → Outcome Val
-give-cell none p s = halt (stop (error UNSET)) p s
-give-cell (some v) p s = ok v s
+unfoldable pub give-cell : Option Val → (made place : ℕ) → State → Outcome Val  -- a cell that is read: its value, or UNSET with the place that made it
+give-cell none m p s = halt (stop (error (UNSET m))) p s
+give-cell (some v) m p s = ok v s
 
 -- ---- the rules, over the evaluators of one level further down
 
@@ -217,7 +224,7 @@ read (inF e xs ρ) p s = ok (inF e xs ρ) s
 read (inFR e f xs ρ) p s = ok (inFR e f xs ρ) s
 read (inP b xs ρ) p s = ok (inP b xs ρ) s
 read (inPR b f xs ρ) p s = ok (inPR b f xs ρ) s
-read (inA a) p s = need (nth (s .cells) a) p s λ c. give-cell c p s
+read (inA a) p s = need (nth (s .cells) a) p s λ c. give-cell (c .holds) (c .made) p s
 read (inB a n) p s = ok (inB a n) s
 
 abbrev pub name-rule : Meaning → Option Val → ℕ → State → Outcome Val  -- (TRUE), (FALSE), (ID1), (ID2); an operator's name alone has no rule
@@ -235,7 +242,7 @@ apply-rule L r none p f es ρ s =
 abbrev pub alloc-rule : Limits → ℕ → ℤ → State → Outcome Val
 alloc-rule L p n s =
     otherwise (as-size n) SIZE p s λ k. within (leb (k + length (s .cells)) (L .cells)) CELLS p s
-    (ok (inB (length (s .cells)) k) (with-cells (s .cells ++ replicate k none) s))
+    (ok (inB (length (s .cells)) k) (with-cells (s .cells ++ replicate k (fresh p)) s))
 
 -- the cell of the element that a block and an index name: else INDEX
 abbrev pub element-rule : ℕ → Val → Val → State → (ℕ → Outcome Val) → Outcome Val
@@ -255,7 +262,7 @@ expr-rule L r (abs p ps e) ρ s = ok (inF e (param-names (values ps)) ρ) s  -- 
 expr-rule L r (alloc p t e) ρ s = bind (r .expr e ρ s) λ v s₁. need (as-number v) p s₁ λ n. alloc-rule L p n s₁
 -- (NTH), (LEN), (VSET): the parts left to right, and then what they come to; vset answers the block
 expr-rule L r (nth-expr p a b) ρ s =
-    bind (r .expr a ρ s) λ v s₁. bind (r .expr b ρ s₁) λ w s₂. element-rule p v w s₂ λ k. need (nth (s₂ .cells) k) p s₂ λ c. give-cell c p s₂
+    bind (r .expr a ρ s) λ v s₁. bind (r .expr b ρ s₁) λ w s₂. element-rule p v w s₂ λ k. need (nth (s₂ .cells) k) p s₂ λ c. give-cell (c .holds) (c .made) p s₂
 expr-rule L r (len p a) ρ s = bind (r .expr a ρ s) λ v s₁. need (as-block v) p s₁ λ k. ok (inZ (pos (k .1))) s₁
 expr-rule L r (vset p a b c) ρ s =
     bind (r .expr a ρ s) λ v s₁. bind (r .expr b ρ s₁) λ w s₂. bind (r .expr c ρ s₂) λ u s₃.
@@ -272,7 +279,7 @@ def-rule L r (fun-rec p (at q x) t ps e) ρ s = make L 1 p s λ s₁. ok (bound 
 -- (VAR) a fresh cell, which is unset; then a binding
 def-rule L r (var p (at q x) t) ρ s =
     within (ltb (length (s .cells)) (L .cells)) CELLS p s
-    (make L 1 p (with-cells (s .cells ++ none ∷ []) s) λ s₁. ok (bound x (inA (length (s .cells))) ρ) s₁)
+    (make L 1 p (with-cells (s .cells ++ fresh p ∷ []) s) λ s₁. ok (bound x (inA (length (s .cells))) ρ) s₁)
 def-rule L r (proc p (at q x) ps b) ρ s = make L 1 p s λ s₁. ok (bound x (inP b (param-names ps) ρ) ρ) s₁  -- (PROC), (PROCREC)
 def-rule L r (proc-rec p (at q x) ps b) ρ s = make L 1 p s λ s₁. ok (bound x (inPR b x (param-names ps) ρ) ρ) s₁
 

@@ -105,11 +105,11 @@ scripts =
     case "[ECHO (div 0 -0);PROC REC h1 [f2:bool] [\nCALL h1 f2];\nPROC e3 [var f4:int, var a5:bool] [ ECHO 007]; ECHO ([a6:(bool -> bool)] -0 [g7:bool] false);CONST d8 bool (not true); ECHO (sub -1 65536); ECHO (add 32768 10)]" (limited 100000 200 4096 4096 4096)
     (ends (stopped (error ZERO) 6) 4 0 0 []) ∷
     case "[ VAR e1 bool;CONST b2 bool (eq -0 3);IF ([f3:bool, b:(int -> bool)] e1 e1 [d5:int] e1) [VAR f int; SET f 0;ECHO f] [\nSET e1 b2]]" (limited 100000 200 4096 4096 4096)
-    (ends (stopped (error UNSET) 72) 9 2 1 []) ∷
+    (ends (stopped (error (UNSET 2)) 72) 9 2 1 []) ∷
     case "[ VAR e1 bool;CONST b2 bool (eq -0 3);IF ([f3:bool, b:(int -> bool)] e1 e1 [d5:int] e1) [VAR f int; SET f 0;ECHO f] [\nSET e1 b2]]" (limited 40 200 4096 4096 4096)
-    (ends (stopped (error UNSET) 72) 9 2 1 []) ∷
+    (ends (stopped (error (UNSET 2)) 72) 9 2 1 []) ∷
     case "[ PROC h1 [c2:int, var g:int, var h4:bool] [ ECHO g]; VAR e5 int; FUN REC e (int * int -> bool) [b:(int * bool -> int), e8:int] (if (lt e8 1) [b11:int, c12:int] true (e [a9:int, g:bool] a9 (sub e8 1)));ECHO e5; WHILE (lt e5 3) [\nSET e5 e5; VAR h int; SET h e5;\nECHO h; SET e5 (add e5 1)]]" (limited 100000 200 4096 4096 4096)
-    (ends (stopped (error UNSET) 207) 5 3 1 []) ∷
+    (ends (stopped (error (UNSET 54)) 207) 5 3 1 []) ∷
     case "[ECHO (add 1 (add 1 (add 1 (add 1 (add 1 (add 1 (add 1 (add 1 (add 1 (add 1 (add 1 (add 1 (add 1 (add 1 (add 1 (add 1 (add 1 (add 1 (add 1 (add 1 (add 1 (add 1 (add 1 (add 1 (add 1 (add 1 (add 1 (add 1 (add 1 (add 1 (add 1 (add 1 (add 1 (add 1 (add 1 (add 1 (add 1 (add 1 (add 1 (add 1 (add 1 (add 1 (add 1 (add 1 (add 1 (add 1 (add 1 (add 1 (add 1 (add 1 (add 1 (add 1 (add 1 (add 1 (add 1 (add 1 (add 1 (add 1 (add 1 (add 1 (add 1 (add 1 (add 1 (add 1 1))))))))))))))))))))))))))))))))))))))))))))))))))))))))))))))))]" greatest-limits
     (refusal-report LEVEL 447) ∷
     case "[CONST f (int -> (int -> (int -> (int -> (int -> (int -> (int -> (int -> (int -> (int -> (int -> (int -> (int -> (int -> (int -> (int -> (int -> (int -> (int -> (int -> (int -> (int -> (int -> (int -> (int -> (int -> (int -> (int -> (int -> (int -> (int -> (int -> (int -> (int -> (int -> (int -> (int -> (int -> (int -> (int -> (int -> (int -> (int -> (int -> (int -> (int -> (int -> (int -> (int -> (int -> (int -> (int -> (int -> (int -> (int -> (int -> (int -> (int -> (int -> (int -> (int -> (int -> (int -> (int -> int)))))))))))))))))))))))))))))))))))))))))))))))))))))))))))))))) 1; ECHO 1]" greatest-limits

@@ -11,7 +11,7 @@ use lib.ListN.{length, length-append, replicate, length-replicate}
 use Rattle.language.specs.Syntax.{Name, at, TypeTree, Expr, alloc, var}
 use Rattle.language.specs.Answers.{LimitStop, ErrorStop}
 use Rattle.language.specs.Limits.{Limits}
-use Rattle.language.specs.Rules.{Val, inA, inB, Env, empty, bound, State, Why, Outcome, ok, halt, bind, need, otherwise, within, take-unit, enter, make, as-number, as-block, as-address, as-size, Level, alloc-rule, expr-rule, def-rule, level}
+use Rattle.language.specs.Rules.{Val, inA, inB, Env, empty, bound, State, Why, Outcome, ok, halt, bind, need, otherwise, within, take-unit, fresh, enter, make, as-number, as-block, as-address, as-size, Level, alloc-rule, expr-rule, def-rule, level}
 use Rattle.language.specs.Outcome.{state-of}
 use Rattle.language.specs.Claims.{Stays, FreshBlock, AllocIsFresh, Takes, by-alloc, by-var, BlocksApart}
 use Rattle.language.proofs.running.Stable.{Mark, After, aOk, sim-after, level-self}
@@ -51,14 +51,14 @@ BlockMade s v t = (k : ℕ) × (v ≡ inB (length (s .cells)) k) × (length (t .
 
 alloc-makes : (L : Limits) (p : ℕ) (n : ℤ) (s : State) → IfEnds (BlockMade s) (alloc-rule L p n s)
 alloc-makes L p n s = ends-otherwise (as-size n) _ p s λ k. ends-within _ _ p s
-    (iOk (k, refl, length-append (s .cells) (replicate k none) ∙ ap (λ m. length (s .cells) + m) (length-replicate k none)))
+    (iOk (k, refl, length-append (s .cells) (replicate k (fresh p)) ∙ ap (λ m. length (s .cells) + m) (length-replicate k (fresh p))))
 
 -- the cell that a VAR takes in the state s
 abbrev CellMade : State → Name → Env → Env → State → Type 0
 CellMade s x ρ ρ′ t = (ρ′ ≡ bound x (inA (length (s .cells))) ρ) × (length (t .cells) ≡ length (s .cells) + 1)
 
 var-makes : (L : Limits) (r : Level) (p q : ℕ) (x : Name) (y : TypeTree) (ρ : Env) (s : State) → IfEnds (CellMade s x ρ) (def-rule L r (var p (at q x) y) ρ s)
-var-makes L r p q x y ρ s = ends-within _ _ p s (ends-within _ _ p _ (iOk (refl, length-append (s .cells) (none ∷ []))))
+var-makes L r p q x y ρ s = ends-within _ _ p s (ends-within _ _ p _ (iOk (refl, length-append (s .cells) (fresh p ∷ []))))
 
 -- what is bound last
 last-bound : Env → Option Val

@@ -1,21 +1,21 @@
 -- What each change of the state keeps, every run keeps: one walk over the rules for every such fact.
-use mathlib.Core.Path.{_≡_, refl}
+use mathlib.Core.Path.{_≡_, refl, sym, _∙_, ap, subst}
 use Prim.Native.Nat.{ℕ, zero, suc, _+_, _≤_, _<_, zero-le}
 use native.Mathlib.Omega.{arith}
-use mathlib.Core.Bool.{Bool, true, false, not as notb}
+use mathlib.Core.Bool.{Bool, true, false, cond, not as notb}
 use mathlib.Core.List.{List, [], _∷_, _++_}
-use mathlib.Core.Option.{Option, none, some}
+use mathlib.Core.Option.{Option, none, some, Option·none-ne-some, Option·some-injective}
 use lib.Dec.{T, ltb, leb, leb→le, ltb→lt, nltb→le}
-use lib.IntN.{ℤ}
+use lib.IntN.{ℤ, pos, _+ℤ_, _-ℤ_, _*ℤ_}
 use lib.ListN.{length, length-append, replicate, length-replicate}
 use Rattle.language.specs.Syntax.{at, arg, Expr, num, name, if-expr, and, or, app, abs, alloc, nth-expr, len, vset, Exprs, one-expr, more-exprs, ExprP, val, adr, Cmds, last, def-then, stat-then, Def, const, fun, fun-rec, var, proc, proc-rec, Stat, echo, set, if-stat, while, call, Block, block}
-use Rattle.language.specs.Answers.{LimitStop, FUEL, DEPTH, CELLS, BINDINGS, OUTPUT, ErrorStop, UNSET, SIZE, INDEX, limit, error}
-use Rattle.language.specs.Names.{Op, Meaning, literal, operator, free, meaning, head-operator}
-use Rattle.language.specs.Numbers.{Computed, amount, fails}
+use Rattle.language.specs.Answers.{LimitStop, FUEL, DEPTH, CELLS, BINDINGS, OUTPUT, ErrorStop, RANGE, ZERO, UNSET, SIZE, INDEX, limit, error}
+use Rattle.language.specs.Names.{Op, not, eq, lt, add, sub, mul, div, Meaning, literal, operator, free, meaning, head-operator}
+use Rattle.language.specs.Numbers.{in-range, quotient, Computed, amount, fails, ranged, same-number, as-bit, negated, op1, op2, compute}
 use Rattle.language.specs.Limits.{Limits}
-use Rattle.language.specs.Rules.{Val, inZ, inF, inFR, inP, inPR, inA, inB, Env, empty, State, Why, stop, no-rule, Outcome, ok, halt, bind, need, otherwise, within, branch, take-unit, take-bindings, with-cells, put-out, enter, make, look, nth, behind, store, as-size, cell-in, give, give-cell, Level, exprs, args, cmds, in-block, read, name-rule, apply-rule, alloc-rule, element-rule, expr-rule, arg-rule, def-rule, rounds, stat-rule, step, level, start, run}
+use Rattle.language.specs.Rules.{Val, inZ, inF, inFR, inP, inPR, inA, inB, Env, empty, Cell, State, Why, stop, no-rule, Outcome, ok, halt, bind, need, otherwise, within, branch, take-unit, take-bindings, with-cells, put-out, enter, make, look, nth, behind, fresh, store, as-size, cell-in, as-numbers, if-numbers, operate, give, give-cell, Level, exprs, args, cmds, in-block, read, name-rule, apply-rule, alloc-rule, element-rule, expr-rule, arg-rule, def-rule, rounds, stat-rule, step, level, start, run}
 use Rattle.language.specs.Outcome.{state-of}
-use Rattle.language.specs.Claims.{InLimits, UsedUp}
+use Rattle.language.specs.Claims.{InLimits, UsedUp, NamesCell, UnsetCell}
 use Rattle.language.proofs.running.Cells.{length-store}
 use Rattle.language.proofs.running.Stable.{Mark, mark, After, aOk, aHalt, sim-after, SimLevel, block-sim, level-self}
 
@@ -23,16 +23,16 @@ use Rattle.language.proofs.running.Stable.{Mark, mark, After, aOk, aHal
 pub record Inv (L : Limits) (I : State → Type 0) (H : Why → State → Type 0) : Type 0 where
   pub on-unit : (s : State) → T (ltb (s .units) (L .fuel)) → I s → I (take-unit s)
   pub on-bindings : (n : ℕ) (s : State) → T (leb (n + s .bindings) (L .bindings)) → I s → I (take-bindings n s)
-  pub on-cell : (s : State) → T (ltb (length (s .cells)) (L .cells)) → I s → I (with-cells (s .cells ++ none ∷ []) s)
-  pub on-cells : (n : ℕ) (s : State) → T (leb (n + length (s .cells)) (L .cells)) → I s → I (with-cells (s .cells ++ replicate n none) s)
-  pub on-store : (s : State) (a : ℕ) (v : Val) (c : List (Option Val)) → store (s .cells) a v ≡ some c → I s → I (with-cells c s)
+  pub on-cell : (p : ℕ) (s : State) → T (ltb (length (s .cells)) (L .cells)) → I s → I (with-cells (s .cells ++ fresh p ∷ []) s)
+  pub on-cells : (p n : ℕ) (s : State) → T (leb (n + length (s .cells)) (L .cells)) → I s → I (with-cells (s .cells ++ replicate n (fresh p)) s)
+  pub on-store : (s : State) (a : ℕ) (v : Val) (c : List Cell) → store (s .cells) a v ≡ some c → I s → I (with-cells c s)
   pub on-number : (n : ℤ) (s : State) → T (ltb (length (s .numbers)) (L .output)) → I s → I (put-out n s)
   pub at-fuel : (s : State) → T (notb (ltb (s .units) (L .fuel))) → I s → H (stop (limit FUEL)) s
   pub at-depth : (s : State) → I s → H (stop (limit DEPTH)) s
   pub at-cells : (s : State) → I s → H (stop (limit CELLS)) s
   pub at-bindings : (s : State) → I s → H (stop (limit BINDINGS)) s
   pub at-output : (s : State) → T (notb (ltb (length (s .numbers)) (L .output))) → I s → H (stop (limit OUTPUT)) s
-  pub at-error : (x : ErrorStop) (s : State) → I s → H (stop (error x)) s
+  pub at-error : (x : ErrorStop) (s : State) → NamesCell (error x) s → I s → H (stop (error x)) s
   pub at-no-rule : (s : State) → I s → H no-rule s
   pub in-fuel : (s : State) → I s → s .units ≤ L .fuel
 
@@ -69,27 +69,86 @@ module _ {H : Why → State → Type 0} where
   keeps-past (kOk i) (aOk h) = kOk (i, h .used)
   keeps-past (kHalt i) (aHalt h) = kHalt i
 
+-- an operator fails as RANGE or ZERO, never as UNSET
+abbrev FailsAs : State → Computed → Type 0
+FailsAs s (amount n) = Unit {0}
+FailsAs s (fails x) = NamesCell (error x) s
+
+abbrev MayFailAs : State → Option Computed → Type 0
+MayFailAs s none = Unit {0}
+MayFailAs s (some c) = FailsAs s c
+
+ranged-fails : (s : State) (z : ℤ) → FailsAs s (ranged z)
+ranged-fails s z = go (in-range z)
+  where
+    go : (b : Bool) → FailsAs s (cond b (amount z) (fails RANGE))
+    go true = tt
+    go false = tt
+
+negated-fails : (s : State) (o : Option Bool) → MayFailAs s (negated o)
+negated-fails s none = tt
+negated-fails s (some true) = tt
+negated-fails s (some false) = tt
+
+op1-fails : (s : State) (o : Op) (a : ℤ) → MayFailAs s (op1 o a)
+op1-fails s not a = negated-fails s (as-bit a)
+op1-fails s eq a = tt
+op1-fails s lt a = tt
+op1-fails s add a = tt
+op1-fails s sub a = tt
+op1-fails s mul a = tt
+op1-fails s div a = tt
+
+op2-fails : (s : State) (o : Op) (a b : ℤ) → MayFailAs s (op2 o a b)
+op2-fails s not a b = tt
+op2-fails s eq a b = tt
+op2-fails s lt a b = tt
+op2-fails s add a b = ranged-fails s (a +ℤ b)
+op2-fails s sub a b = ranged-fails s (a -ℤ b)
+op2-fails s mul a b = ranged-fails s (a *ℤ b)
+op2-fails s div a b = go (same-number b (pos 0))
+  where
+    go : (t : Bool) → FailsAs s (cond t (fails ZERO) (ranged (quotient a b)))
+    go true = tt
+    go false = ranged-fails s (quotient a b)
+
+compute-fails : (s : State) (o : Op) (l : List ℤ) → MayFailAs s (compute o l)
+compute-fails s o [] = tt
+compute-fails s o (a ∷ []) = op1-fails s o a
+compute-fails s o (a ∷ b ∷ []) = op2-fails s o a b
+compute-fails s o (a ∷ b ∷ c ∷ l) = tt
+
+operate-fails : (s : State) (o : Op) (vs : List Val) (c : Computed) → operate o vs ≡ some c → FailsAs s c
+operate-fails s o vs c e = subst (MayFailAs s) e (go (as-numbers vs))
+  where
+    go : (m : Option (List ℤ)) → MayFailAs s (if-numbers m (compute o))
+    go none = tt
+    go (some l) = compute-fails s o l
+
 module _ (L : Limits) {I : State → Type 0} {H : Why → State → Type 0} (W : Inv L I H) where
   keeps-need : {A B : Type 0} (o : Option A) (p : ℕ) (s : State) {k : A → Outcome B} → I s → ((a : A) → o ≡ some a → Keeps I H (k a)) → Keeps I H (need o p s k)
   unfolding need
   keeps-need none p s i f = kHalt (W .at-no-rule s i)
   keeps-need (some a) p s i f = f a refl
 
-  keeps-otherwise : {A B : Type 0} (o : Option A) (x : ErrorStop) (p : ℕ) (s : State) {k : A → Outcome B} → I s → ((a : A) → Keeps I H (k a)) →
+  keeps-otherwise : {A B : Type 0} (o : Option A) (x : ErrorStop) (p : ℕ) (s : State) {k : A → Outcome B} → NamesCell (error x) s → I s → ((a : A) → Keeps I H (k a)) →
       Keeps I H (otherwise o x p s k)
   unfolding otherwise
-  keeps-otherwise none x p s i f = kHalt (W .at-error x s i)
-  keeps-otherwise (some a) x p s i f = f a
+  keeps-otherwise none x p s h i f = kHalt (W .at-error x s h i)
+  keeps-otherwise (some a) x p s h i f = f a
 
-  keeps-give : (c : Computed) (p : ℕ) (s : State) → I s → Keeps I H (give c p s)
+  keeps-give : (c : Computed) (p : ℕ) (s : State) → FailsAs s c → I s → Keeps I H (give c p s)
   unfolding give
-  keeps-give (amount n) p s i = kOk i
-  keeps-give (fails x) p s i = kHalt (W .at-error x s i)
+  keeps-give (amount n) p s h i = kOk i
+  keeps-give (fails x) p s h i = kHalt (W .at-error x s h i)
 
-  keeps-cell : (c : Option Val) (p : ℕ) (s : State) → I s → Keeps I H (give-cell c p s)
+  keeps-cell : (a : ℕ) (c : Cell) (p : ℕ) (s : State) → nth (s .cells) a ≡ some c → I s → Keeps I H (give-cell (c .holds) (c .made) p s)
   unfolding give-cell
-  keeps-cell none p s i = kHalt (W .at-error UNSET s i)
-  keeps-cell (some v) p s i = kOk i
+  keeps-cell a c p s h i = go (c .holds) refl
+    where
+      go : (o : Option Val) → c .holds ≡ o → Keeps I H (give-cell o (c .made) p s)
+      go none e = kHalt (W .at-error (UNSET (c .made)) s (a, h ∙ λ j. some (record { made = c .made; holds = e j })) i)
+      go (some v) e = kOk i
 
   keeps-read : (v : Val) (p : ℕ) (s : State) → I s → Keeps I H (read v p s)
   keeps-read (inZ n) p s i = kOk i
@@ -97,7 +156,7 @@ module _ (L : Limits) {I : State → Type 0} {H : Why → State → Type 0} (W :
   keeps-read (inFR e f xs ρ) p s i = kOk i
   keeps-read (inP b xs ρ) p s i = kOk i
   keeps-read (inPR b f xs ρ) p s i = kOk i
-  keeps-read (inA a) p s i = keeps-need _ p s i λ c _. keeps-cell c p s i
+  keeps-read (inA a) p s i = keeps-need _ p s i λ c e. keeps-cell a c p s e i
   keeps-read (inB a n) p s i = kOk i
 
   keeps-name : (m : Meaning) (o : Option Val) (p : ℕ) (s : State) → I s → Keeps I H (name-rule m o p s)
@@ -112,10 +171,10 @@ module _ (L : Limits) {I : State → Type 0} {H : Why → State → Type 0} (W :
   make-k n p s i f = keeps-within _ _ p s (λ b. W .at-bindings s i) λ b. f (W .on-bindings n s b i)
 
   alloc-k : (p : ℕ) (n : ℤ) (s : State) → I s → Keeps I H (alloc-rule L p n s)
-  alloc-k p n s i = keeps-otherwise _ _ p s i λ k. keeps-within _ _ p s (λ b. W .at-cells s i) λ b. kOk (W .on-cells k s b i)
+  alloc-k p n s i = keeps-otherwise _ SIZE p s tt i λ k. keeps-within _ _ p s (λ b. W .at-cells s i) λ b. kOk (W .on-cells p k s b i)
 
   element-k : (p : ℕ) (v w : Val) (s : State) {k : ℕ → Outcome Val} → I s → ((a : ℕ) → Keeps I H (k a)) → Keeps I H (element-rule p v w s k)
-  element-k p v w s i f = keeps-need _ p s i λ b _. keeps-need _ p s i λ n _. keeps-otherwise _ _ p s i f
+  element-k p v w s i f = keeps-need _ p s i λ b _. keeps-need _ p s i λ n _. keeps-otherwise _ INDEX p s tt i f
 
   -- the count of the rounds never runs out: each takes a unit, and there are no more than the fuel
   rounds-k : (n : ℕ) (test : State → Outcome Val) (run : State → Outcome (Unit {0})) →
@@ -144,7 +203,7 @@ module _ (L : Limits) {I : State → Type 0} {H : Why → State → Type 0} (W :
     block-k (block p cs) ρ s i = cmds-k cs ρ s i
 
     apply-k : (g : Option Op) (p : ℕ) (f : Expr) (es : Exprs) (ρ : Env) (s : State) → I s → Keeps I H (apply-rule L r g p f es ρ s)
-    apply-k (some o) p f es ρ s i = keeps-bind (exprs-k es ρ s i) λ vs s₁ i₁. keeps-need _ p s₁ i₁ λ c _. keeps-give c p s₁ i₁
+    apply-k (some o) p f es ρ s i = keeps-bind (exprs-k es ρ s i) λ vs s₁ i₁. keeps-need _ p s₁ i₁ λ c e. keeps-give c p s₁ (operate-fails s₁ o vs c e) i₁
     apply-k none p f es ρ s i = keeps-bind (h .expr-keeps f ρ s i) λ v s₁ i₁. keeps-bind (exprs-k es ρ s₁ i₁) λ vs s₂ i₂. keeps-need _ p s₂ i₂ λ c _.
         make-k (c .count) p s₂ i₂ λ i₃. h .expr-keeps (c .body) (c .env) _ i₃
 
@@ -158,7 +217,7 @@ module _ (L : Limits) {I : State → Type 0} {H : Why → State → Type 0} (W :
     expr-k (abs p ps e) ρ s i = kOk i
     expr-k (alloc p t e) ρ s i = keeps-bind (h .expr-keeps e ρ s i) λ v s₁ i₁. keeps-need _ p s₁ i₁ λ n _. alloc-k p n s₁ i₁
     expr-k (nth-expr p a b) ρ s i = keeps-bind (h .expr-keeps a ρ s i) λ v s₁ i₁. keeps-bind (h .expr-keeps b ρ s₁ i₁) λ w s₂ i₂.
-        element-k p v w s₂ i₂ λ k. keeps-need _ p s₂ i₂ λ c _. keeps-cell c p s₂ i₂
+        element-k p v w s₂ i₂ λ k. keeps-need _ p s₂ i₂ λ c e. keeps-cell k c p s₂ e i₂
     expr-k (len p a) ρ s i = keeps-bind (h .expr-keeps a ρ s i) λ v s₁ i₁. keeps-need _ p s₁ i₁ λ k _. kOk i₁
     expr-k (vset p a b c) ρ s i = keeps-bind (h .expr-keeps a ρ s i) λ v s₁ i₁. keeps-bind (h .expr-keeps b ρ s₁ i₁) λ w s₂ i₂.
         keeps-bind (h .expr-keeps c ρ s₂ i₂) λ u s₃ i₃. element-k p v w s₃ i₃ λ k. keeps-need _ p s₃ i₃ λ cs m. kOk (W .on-store s₃ k u cs m i₃)
@@ -171,7 +230,7 @@ module _ (L : Limits) {I : State → Type 0} {H : Why → State → Type 0} (W :
     def-k (const p (at q x) t e) ρ s i = keeps-bind (h .expr-keeps e ρ s i) λ v s₁ i₁. make-k 1 p s₁ i₁ λ i₂. kOk i₂
     def-k (fun p (at q x) t ps e) ρ s i = make-k 1 p s i λ i₁. kOk i₁
     def-k (fun-rec p (at q x) t ps e) ρ s i = make-k 1 p s i λ i₁. kOk i₁
-    def-k (var p (at q x) t) ρ s i = keeps-within _ _ p s (λ b. W .at-cells s i) λ b. make-k 1 p (with-cells (s .cells ++ none ∷ []) s) (W .on-cell s b i) λ i₁. kOk i₁
+    def-k (var p (at q x) t) ρ s i = keeps-within _ _ p s (λ b. W .at-cells s i) λ b. make-k 1 p (with-cells (s .cells ++ fresh p ∷ []) s) (W .on-cell p s b i) λ i₁. kOk i₁
     def-k (proc p (at q x) ps b) ρ s i = make-k 1 p s i λ i₁. kOk i₁
     def-k (proc-rec p (at q x) ps b) ρ s i = make-k 1 p s i λ i₁. kOk i₁
 
@@ -215,7 +274,7 @@ pub data StopsAt (L : Limits) : Why → State → Type 0 where
   out-of-output : {s : State} → length (s .numbers) ≡ L .output → StopsAt L (stop (limit OUTPUT)) s
   too-deep : {s : State} → StopsAt L (stop (limit DEPTH)) s
   no-bindings : {s : State} → StopsAt L (stop (limit BINDINGS)) s
-  by-error : {x : ErrorStop} {s : State} → StopsAt L (stop (error x)) s
+  by-error : {x : ErrorStop} {s : State} → NamesCell (error x) s → StopsAt L (stop (error x)) s
   by-no-rule : {s : State} → StopsAt L no-rule s
 
 full : (a b : ℕ) → a ≤ b → T (notb (ltb a b)) → a ≡ b
@@ -225,17 +284,17 @@ pub limits-kept : (L : Limits) → Inv L (InLimits L) (λ w s. InLimits L s × S
 limits-kept L = record {
   on-unit = λ s b i. record { units-in = ltb→lt _ _ b; bindings-in = i .bindings-in; cells-in = i .cells-in; numbers-in = i .numbers-in };
   on-bindings = λ n s b i. record { units-in = i .units-in; bindings-in = leb→le _ _ b; cells-in = i .cells-in; numbers-in = i .numbers-in };
-  on-cell = λ s b i. record {
+  on-cell = λ p s b i. record {
     units-in = i .units-in;
     bindings-in = i .bindings-in;
     numbers-in = i .numbers-in;
-    cells-in = omega (arith, length-append (s .cells) (none ∷ []), ltb→lt (length (s .cells)) (L .cells) b);
+    cells-in = omega (arith, length-append (s .cells) (fresh p ∷ []), ltb→lt (length (s .cells)) (L .cells) b);
   };
-  on-cells = λ n s b i. record {
+  on-cells = λ p n s b i. record {
     units-in = i .units-in;
     bindings-in = i .bindings-in;
     numbers-in = i .numbers-in;
-    cells-in = omega (arith, length-append (s .cells) (replicate n none), length-replicate {A = Option Val} n none, leb→le (n + length (s .cells)) (L .cells) b);
+    cells-in = omega (arith, length-append (s .cells) (replicate n (fresh p)), length-replicate n (fresh p), leb→le (n + length (s .cells)) (L .cells) b);
   };
   on-store = λ s a v c q i. record {
     units-in = i .units-in;
@@ -254,7 +313,7 @@ limits-kept L = record {
   at-cells = λ s i. (i, no-cells);
   at-bindings = λ s i. (i, no-bindings);
   at-output = λ s b i. (i, out-of-output (full (length (s .numbers)) (L .output) (i .numbers-in) b));
-  at-error = λ x s i. (i, by-error);
+  at-error = λ x s h i. (i, by-error h);
   at-no-rule = λ s i. (i, by-no-rule);
   in-fuel = λ s i. i .units-in;
 }
@@ -276,7 +335,7 @@ used-up {L} (halt w p s) (kHalt i) = go (i .1)
     go (out-of-output e) = e
     go too-deep = tt
     go no-bindings = tt
-    go by-error = tt
+    go (by-error h) = tt
     go by-no-rule = tt
 
 pub counts-in-limits : (L : Limits) (b : Block) → InLimits L (state-of (run L b))
@@ -284,3 +343,19 @@ counts-in-limits L b = counts-kept (run-kept L b)
 
 pub limit-is-used-up : (L : Limits) (b : Block) → UsedUp L (run L b)
 limit-is-used-up L b = used-up (run L b) (run-kept L b)
+
+unset-cell : {L : Limits} (o : Outcome (Unit {0})) → Keeps (InLimits L) (λ w s. InLimits L s × StopsAt L w s) o → UnsetCell o
+unset-cell (ok a s) k = tt
+unset-cell {L} (halt w p s) (kHalt i) = go (i .1)
+  where
+    go : {w : Why} → StopsAt L w s → UnsetCell (halt w p s)
+    go (out-of-fuel e) = tt
+    go no-cells = tt
+    go (out-of-output e) = tt
+    go too-deep = tt
+    go no-bindings = tt
+    go (by-error h) = h
+    go by-no-rule = tt
+
+pub unset-names-its-cell : (L : Limits) (b : Block) → UnsetCell (run L b)
+unset-names-its-cell L b = unset-cell (run L b) (run-kept L b)

@@ -18,7 +18,7 @@ use Rattle.language.specs.Numbers.{in-range, quotient, Computed, amount,
 use Rattle.language.specs.Types.{Base, boolean, integer, Ty, base, fn, vec-of, Tys, tnil, tcons, BOOL, INT, typeOf, Par, value, ref, Entity, plain, procedure, Ctx, find, extend, values, par, pars, param-name, param-names, declared, arg-types, takes, result}
 use Rattle.language.specs.Typing.{HasE, NUM, LITERAL, IDV, IDR, IF, AND, OR, PRIM, APP, ABS, ALLOC, NTH, LEN, VSET, HasEs, ONE, MORE, HasA, REF, VAL, HasAs, NO-ARGS, ARGS, HasB, BLOC, HasC, DECS, STATS, END, HasD, CONST, FUN, FUNREC, VAR, PROC, PROCREC, HasS, ECHO, SET, IFS, WHILE, CALL, Typable}
 use Rattle.language.specs.Limits.{Limits}
-use Rattle.language.specs.Rules.{Val, inZ, inF, inFR, inP, inPR, inA, inB, Env, empty, bound, State, Why, stop, no-rule, Outcome, ok, halt, bind, need, otherwise, within, branch, take-unit, with-cells, make, lookup-env, look, bind-all, nth, behind, store, as-number, as-truth, as-address, as-block, as-size, cell-in, operate, Entered, entering, also, open-function, open-procedure, give, give-cell, Level, exprs, args, cmds, in-block, read, name-rule, apply-rule, alloc-rule, element-rule, expr-rule, arg-rule, def-rule, rounds, stat-rule, step, level, start, run}
+use Rattle.language.specs.Rules.{Val, inZ, inF, inFR, inP, inPR, inA, inB, Env, empty, bound, Cell, State, Why, stop, no-rule, Outcome, ok, halt, bind, need, otherwise, within, branch, take-unit, with-cells, make, lookup-env, look, bind-all, nth, behind, fresh, store, as-number, as-truth, as-address, as-block, as-size, cell-in, operate, Entered, entering, also, open-function, open-procedure, give, give-cell, Level, exprs, args, cmds, in-block, read, name-rule, apply-rule, alloc-rule, element-rule, expr-rule, arg-rule, def-rule, rounds, stat-rule, step, level, start, run}
 use Rattle.language.specs.Claims.{NoRule}
 use Rattle.language.proofs.typing.Names.{Has, has, head-typed}
 
@@ -89,11 +89,11 @@ pub data CellT (S : StoreT) (t : Ty) : Option Val → Type 0 where
   unset : CellT S t none
   holds : {v : Val} → VT S v (plain (value t)) → CellT S t (some v)
 
-pub data CellsT (S : StoreT) : StoreT → List (Option Val) → Type 0 where
+pub data CellsT (S : StoreT) : StoreT → List Cell → Type 0 where
   cnil : CellsT S [] []
-  ccons : {t : Ty} {R : StoreT} {c : Option Val} {cs : List (Option Val)} → CellT S t c → CellsT S R cs → CellsT S (t ∷ R) (c ∷ cs)
+  ccons : {t : Ty} {R : StoreT} {c : Cell} {cs : List Cell} → CellT S t (c .holds) → CellsT S R cs → CellsT S (t ∷ R) (c ∷ cs)
 
-abbrev pub StoreOk : StoreT → List (Option Val) → Type 0
+abbrev pub StoreOk : StoreT → List Cell → Type 0
 StoreOk S cs = CellsT S S cs
 
 module _ {S S′ : StoreT} (le : Ext S S′) where
@@ -115,7 +115,7 @@ module _ {S S′ : StoreT} (le : Ext S S′) where
   cell-ext unset = unset
   cell-ext (holds h) = holds (vt-ext h)
 
-  cells-ext : {R : StoreT} {cs : List (Option Val)} → CellsT S R cs → CellsT S′ R cs
+  cells-ext : {R : StoreT} {cs : List Cell} → CellsT S R cs → CellsT S′ R cs
   cells-ext cnil = cnil
   cells-ext (ccons h r) = ccons (cell-ext h) (cells-ext r)
 
@@ -203,18 +203,18 @@ look-ok x r e = unless-ok (meaning x) (lookup-ok x r) e
 
 -- ---- cells
 
-cell-ok : {S R : StoreT} {cs : List (Option Val)} {t : Ty} (a : ℕ) → CellsT S R cs → nth R a ≡ some t → Has (λ c. CellT S t c) (nth cs a)
+cell-ok : {S R : StoreT} {cs : List Cell} {t : Ty} (a : ℕ) → CellsT S R cs → nth R a ≡ some t → Has (λ c. CellT S t (c .holds)) (nth cs a)
 cell-ok a cnil e = absurd (Option·none-ne-some _ e)
-cell-ok {S = S} zero (ccons {c = c} h r) e = has (subst (λ t. CellT S t c) (Option·some-injective _ _ e) h)
+cell-ok {S = S} zero (ccons {c = c} h r) e = has (subst (λ t. CellT S t (c .holds)) (Option·some-injective _ _ e) h)
 cell-ok (suc a) (ccons h r) e = cell-ok a r e
 
-store-ok : {S R : StoreT} {cs : List (Option Val)} {t : Ty} (a : ℕ) {v : Val} → VT S v (plain (value t)) → CellsT S R cs → nth R a ≡ some t →
+store-ok : {S R : StoreT} {cs : List Cell} {t : Ty} (a : ℕ) {v : Val} → VT S v (plain (value t)) → CellsT S R cs → nth R a ≡ some t →
     Has (λ cs′. CellsT S R cs′) (store cs a v)
 store-ok a m cnil e = absurd (Option·none-ne-some _ e)
 store-ok {S = S} zero {v = v} m (ccons h r) e = has (ccons (holds (subst (λ t. VT S v (plain (value t))) (sym (Option·some-injective _ _ e)) m)) r)
 store-ok {S = S} (suc a) m (ccons {t = t₀} {R = R} {c = c} h r) e = go (store-ok a m r e)
   where
-    go : {o : Option (List (Option Val))} → Has (λ cs′. CellsT S R cs′) o → Has (λ cs′. CellsT S (t₀ ∷ R) cs′) (behind c o)
+    go : {o : Option (List Cell)} → Has (λ cs′. CellsT S R cs′) o → Has (λ cs′. CellsT S (t₀ ∷ R) cs′) (behind c o)
     go (has k) = has (ccons h k)
 
 -- fresh cells
@@ -226,23 +226,23 @@ nth-grow (x ∷ S) R (suc a) t e = nth-grow S R a t e
 grow : {S : StoreT} (R : StoreT) → Ext S (S ++ R)
 grow {S} R = record { keeps = λ a t e. nth-grow S R a t e }
 
-fresh-cells : {S : StoreT} (n : ℕ) (t : Ty) → CellsT S (replicate n t) (replicate n none)
-fresh-cells zero t = cnil
-fresh-cells (suc n) t = ccons unset (fresh-cells n t)
+fresh-cells : {S : StoreT} (n : ℕ) (t : Ty) (p : ℕ) → CellsT S (replicate n t) (replicate n (fresh p))
+fresh-cells zero t p = cnil
+fresh-cells (suc n) t p = ccons unset (fresh-cells n t p)
 
-more-cells : {S R : StoreT} {cs : List (Option Val)} (n : ℕ) (t : Ty) → CellsT S R cs → CellsT S (R ++ replicate n t) (cs ++ replicate n none)
-more-cells n t cnil = fresh-cells n t
-more-cells n t (ccons h r) = ccons h (more-cells n t r)
+more-cells : {S R : StoreT} {cs : List Cell} (n : ℕ) (t : Ty) (p : ℕ) → CellsT S R cs → CellsT S (R ++ replicate n t) (cs ++ replicate n (fresh p))
+more-cells n t p cnil = fresh-cells n t p
+more-cells n t p (ccons h r) = ccons h (more-cells n t p r)
 
-grow-ok : {S : StoreT} {cs : List (Option Val)} (n : ℕ) (t : Ty) → StoreOk S cs → StoreOk (S ++ replicate n t) (cs ++ replicate n none)
-grow-ok n t k = more-cells n t (cells-ext (grow (replicate n t)) k)
+grow-ok : {S : StoreT} {cs : List Cell} (n : ℕ) (t : Ty) (p : ℕ) → StoreOk S cs → StoreOk (S ++ replicate n t) (cs ++ replicate n (fresh p))
+grow-ok n t p k = more-cells n t p (cells-ext (grow (replicate n t)) k)
 
 nth-replicate : (n : ℕ) (t : Ty) (i : ℕ) → i < n → nth (replicate n t) i ≡ some t
 nth-replicate zero t i h = absurd (not-suc-le-zero h)
 nth-replicate (suc n) t zero h = refl
 nth-replicate (suc n) t (suc i) h = nth-replicate n t i (le-of-suc-le-suc h)
 
-new-cells : {S R : StoreT} {cs : List (Option Val)} (n : ℕ) (t : Ty) (a i : ℕ) → CellsT S R cs → a ≡ length cs + i → i < n → nth (R ++ replicate n t) a ≡ some t
+new-cells : {S R : StoreT} {cs : List Cell} (n : ℕ) (t : Ty) (a i : ℕ) → CellsT S R cs → a ≡ length cs + i → i < n → nth (R ++ replicate n t) a ≡ some t
 new-cells n t a i cnil e h = nth-replicate n t a (omega (arith, e, h))
 new-cells n t zero i (ccons c r) e h = absurd (omega (arith, e))
 new-cells n t (suc a) i (ccons c r) e h = new-cells n t a i r (omega (arith, e)) h
@@ -264,15 +264,15 @@ number-ok (vZ h) = has h
 address-ok : {S : StoreT} {v : Val} {t : Ty} → VT S v (plain (ref t)) → Has (λ a. VT S (inA a) (plain (ref t))) (as-address v)
 address-ok (vA h) = has (vA h)
 
-set-ok : {S : StoreT} {v : Val} {t : Ty} {a : ℕ} {cs : List (Option Val)} → StoreOk S cs → VT S (inA a) (plain (ref t)) → VT S v (plain (value t)) →
+set-ok : {S : StoreT} {v : Val} {t : Ty} {a : ℕ} {cs : List Cell} → StoreOk S cs → VT S (inA a) (plain (ref t)) → VT S v (plain (value t)) →
     Has (λ cs′. StoreOk S cs′) (store cs a v)
 set-ok {a = a} k (vA e) h = store-ok a h k e
 
-give-cell-ok : {S : StoreT} {t : Ty} {c : Option Val} (p : ℕ) (s : State) → StoreOk S (s .cells) → CellT S t c →
-    Good (IsV (plain (value t))) S (give-cell c p s)
+give-cell-ok : {S : StoreT} {t : Ty} {c : Option Val} (m p : ℕ) (s : State) → StoreOk S (s .cells) → CellT S t c →
+    Good (IsV (plain (value t))) S (give-cell c m p s)
 unfolding give-cell
-give-cell-ok p s k unset = ruled tt
-give-cell-ok p s k (holds h) = good _ ext-refl k h
+give-cell-ok m p s k unset = ruled tt
+give-cell-ok m p s k (holds h) = good _ ext-refl k h
 
 read-value : {S : StoreT} {v : Val} {t : Ty} (p : ℕ) (s : State) → StoreOk S (s .cells) → VT S v (plain (value t)) → Good (IsV (plain (value t))) S (read v p s)
 read-value p s k (vZ h) = good _ ext-refl k (vZ h)
@@ -281,7 +281,7 @@ read-value p s k (vFR Γ ds h q r d) = good _ ext-refl k (vFR Γ ds h q r d)
 read-value p s k (vB h) = good _ ext-refl k (vB h)
 
 read-ref : {S : StoreT} {v : Val} {t : Ty} (p : ℕ) (s : State) → StoreOk S (s .cells) → VT S v (plain (ref t)) → Good (IsV (plain (value t))) S (read v p s)
-read-ref p s k (vA {a = a} h) = good-need _ _ (cell-ok a k h) λ c m. give-cell-ok p s k m
+read-ref p s k (vA {a = a} h) = good-need _ _ (cell-ok a k h) λ c m. give-cell-ok (c .made) p s k m
 
 -- blocks
 vec-ok : {S : StoreT} {v : Val} {t : Ty} → VT S v (plain (value (vec-of t))) → Has (BlockT S t) (as-block v)
@@ -302,7 +302,7 @@ element-ok {S = S} {t = t} p s h m f =
 
 alloc-ok : {S : StoreT} (L : Limits) (p : ℕ) (n : ℤ) (t : Ty) (s : State) → StoreOk S (s .cells) → Good (IsV (plain (value (vec-of t)))) S (alloc-rule L p n s)
 alloc-ok L p n t s k = good-otherwise (as-size n) SIZE p s λ m _.
-    good-within _ _ _ _ (good _ (grow (replicate m t)) (grow-ok m t k) (vB (λ i l. new-cells m t _ i k refl l)))
+    good-within _ _ _ _ (good _ (grow (replicate m t)) (grow-ok m t p k) (vB (λ i l. new-cells m t _ i k refl l)))
 
 -- a bound name's rule is to read its value
 name-ok : {S : StoreT} {τ : Entity} {t : Ty} (m : Meaning) (o : Option Entity) (v : Option Val) (p : ℕ) (s : State) → unless-nine m o ≡ some τ →
@@ -469,7 +469,7 @@ module _ (L : Limits) {r : Level} (h : GoodLevel r) where
   expr-ok s (ALLOC {t = t} _ d) m k = good-bind (h .expr-good s d m k) λ S₁ v s₁ le₁ k₁ p. good-need _ _ (number-ok p) λ n _. alloc-ok L _ n (typeOf t) s₁ k₁
   expr-ok s (NTH da db) m k =
       good-bind (h .expr-good s da m k) λ S₁ v s₁ le₁ k₁ p. good-bind (h .expr-good s₁ db (env-ext le₁ m) k₁) λ S₂ w s₂ le₂ k₂ q.
-      element-ok _ s₂ (vt-ext le₂ p) q λ a e. good-need _ _ (cell-ok a k₂ e) λ c n. give-cell-ok _ s₂ k₂ n
+      element-ok _ s₂ (vt-ext le₂ p) q λ a e. good-need _ _ (cell-ok a k₂ e) λ c n. give-cell-ok (c .made) _ s₂ k₂ n
   expr-ok s (LEN d) m k = good-bind (h .expr-good s d m k) λ S₁ v s₁ le₁ k₁ p. good-need _ _ (vec-ok p) λ b _. good S₁ ext-refl k₁ (vZ tt)
   expr-ok s (VSET da db dc) m k =
       good-bind (h .expr-good s da m k) λ S₁ v s₁ le₁ k₁ p. good-bind (h .expr-good s₁ db (env-ext le₁ m) k₁) λ S₂ w s₂ le₂ k₂ q.
@@ -483,9 +483,9 @@ module _ (L : Limits) {r : Level} (h : GoodLevel r) where
 
   var-ok : {Γ : Ctx} {S : StoreT} {ρ : Env} (p : ℕ) (x : Name) (t : Ty) (s : State) → EnvT S ρ Γ → StoreOk S (s .cells) →
       Good (IsEnv ((x, plain (ref t)) ∷ Γ)) S
-      (within (ltb (length (s .cells)) (L .cells)) CELLS p s (make L 1 p (with-cells (s .cells ++ none ∷ []) s) λ s₁. ok (bound x (inA (length (s .cells))) ρ) s₁))
+      (within (ltb (length (s .cells)) (L .cells)) CELLS p s (make L 1 p (with-cells (s .cells ++ fresh p ∷ []) s) λ s₁. ok (bound x (inA (length (s .cells))) ρ) s₁))
   var-ok p x t s m k =
-      good-within _ _ _ _ (good-within _ _ _ _ (good _ (grow (t ∷ [])) (grow-ok 1 t k) (tbound (vA (new-cells 1 t _ 0 k (omega arith) (omega arith))) (env-ext (grow (t ∷ [])) m))))
+      good-within _ _ _ _ (good-within _ _ _ _ (good _ (grow (t ∷ [])) (grow-ok 1 t p k) (tbound (vA (new-cells 1 t _ 0 k (omega arith) (omega arith))) (env-ext (grow (t ∷ [])) m))))
 
   def-ok : {Γ Δ : Ctx} {d : Def} {S : StoreT} {ρ : Env} (s : State) → HasD Γ d Δ → EnvT S ρ Γ → StoreOk S (s .cells) → Good (IsEnv Δ) S (def-rule L r d ρ s)
   def-ok s (CONST _ _ d) m k = good-bind (h .expr-good s d m k) λ S₁ v s₁ le₁ k₁ p. good-within _ _ _ _ (good S₁ ext-refl k₁ (tbound p (env-ext le₁ m)))

@@ -14,7 +14,7 @@ use Rattle.language.specs.Answers.{LimitStop, ErrorStop, limit}
 use Rattle.language.specs.Names.{Op, Meaning, literal, operator, free, meaning, head-operator}
 use Rattle.language.specs.Numbers.{Computed, amount, fails}
 use Rattle.language.specs.Limits.{Limits, _⊑_}
-use Rattle.language.specs.Rules.{Val, inZ, inF, inFR, inP, inPR, inA, inB, Env, empty, State, Why, stop, Outcome, ok, halt, bind, need, otherwise, within, branch, take-unit, take-bindings, with-cells, put-out, enter, make, look, store, give, give-cell, Level, exprs, args, cmds, in-block, read, name-rule, apply-rule, alloc-rule, element-rule, expr-rule, arg-rule, def-rule, rounds, stat-rule, bottom, step, level, start, run}
+use Rattle.language.specs.Rules.{Val, inZ, inF, inFR, inP, inPR, inA, inB, Env, empty, Cell, State, Why, stop, Outcome, ok, halt, bind, need, otherwise, within, branch, take-unit, take-bindings, with-cells, put-out, enter, make, look, fresh, store, give, give-cell, Level, exprs, args, cmds, in-block, read, name-rule, apply-rule, alloc-rule, element-rule, expr-rule, arg-rule, def-rule, rounds, stat-rule, bottom, step, level, start, run}
 use Rattle.language.specs.Outcome.{state-of}
 use Rattle.language.specs.Claims.{NotLimited}
 use Rattle.language.proofs.running.Cells.{length-store}
@@ -54,13 +54,13 @@ past-unit s = record { outs = all; used = omega arith; made = le-refl _; taken =
 past-bindings : (n : ℕ) (s : State) → Past (mark s) (mark (take-bindings n s))
 past-bindings n s = record { outs = all; used = le-refl _; made = omega arith; taken = le-refl _ }
 
-past-cell : (s : State) → Past (mark s) (mark (with-cells (s .cells ++ none ∷ []) s))
-past-cell s = record { outs = all; used = le-refl _; made = le-refl _; taken = omega (arith, length-append (s .cells) (none ∷ [])) }
+past-cell : (p : ℕ) (s : State) → Past (mark s) (mark (with-cells (s .cells ++ fresh p ∷ []) s))
+past-cell p s = record { outs = all; used = le-refl _; made = le-refl _; taken = omega (arith, length-append (s .cells) (fresh p ∷ [])) }
 
-past-cells : (n : ℕ) (s : State) → Past (mark s) (mark (with-cells (s .cells ++ replicate n none) s))
-past-cells n s = record { outs = all; used = le-refl _; made = le-refl _; taken = omega (arith, length-append (s .cells) (replicate n none)) }
+past-cells : (p n : ℕ) (s : State) → Past (mark s) (mark (with-cells (s .cells ++ replicate n (fresh p)) s))
+past-cells p n s = record { outs = all; used = le-refl _; made = le-refl _; taken = omega (arith, length-append (s .cells) (replicate n (fresh p))) }
 
-past-store : (s : State) (a : ℕ) (v : Val) (c : List (Option Val)) → store (s .cells) a v ≡ some c → Past (mark s) (mark (with-cells c s))
+past-store : (s : State) (a : ℕ) (v : Val) (c : List Cell) → store (s .cells) a v ≡ some c → Past (mark s) (mark (with-cells c s))
 past-store s a v c e = record { outs = all; used = le-refl _; made = le-refl _; taken = omega (arith, length-store (s .cells) a v c e) }
 
 past-number : (n : ℤ) (s : State) → Past (mark s) (mark (put-out n s))
@@ -133,10 +133,10 @@ unfolding give
 give-sim (amount n) p s = same (aOk pHere)
 give-sim (fails x) p s = same (aHalt pHere)
 
-give-cell-sim : (c : Option Val) (p : ℕ) (s : State) → Sim (mark s) (give-cell c p s) (give-cell c p s)
+give-cell-sim : (c : Option Val) (m p : ℕ) (s : State) → Sim (mark s) (give-cell c m p s) (give-cell c m p s)
 unfolding give-cell
-give-cell-sim none p s = same (aHalt pHere)
-give-cell-sim (some v) p s = same (aOk pHere)
+give-cell-sim none m p s = same (aHalt pHere)
+give-cell-sim (some v) m p s = same (aOk pHere)
 
 read-sim : (v : Val) (p : ℕ) (s : State) → Sim (mark s) (read v p s) (read v p s)
 read-sim (inZ n) p s = same (aOk pHere)
@@ -144,7 +144,7 @@ read-sim (inF e xs ρ) p s = same (aOk pHere)
 read-sim (inFR e f xs ρ) p s = same (aOk pHere)
 read-sim (inP b xs ρ) p s = same (aOk pHere)
 read-sim (inPR b f xs ρ) p s = same (aOk pHere)
-read-sim (inA a) p s = sim-need _ p s λ c. give-cell-sim c p s
+read-sim (inA a) p s = sim-need _ p s λ c. give-cell-sim (c .holds) (c .made) p s
 read-sim (inB a n) p s = same (aOk pHere)
 
 name-sim : (m : Meaning) (o : Option Val) (p : ℕ) (s : State) → Sim (mark s) (name-rule m o p s) (name-rule m o p s)
@@ -177,7 +177,7 @@ module _ {L L′ : Limits} (le : L ⊑ L′) where
   make-sim n p s h = sim-within _ _ _ p s (up _ (le .bindings-le)) (sim-lift (past-bindings n s) h)
 
   alloc-sim : (p : ℕ) (n : ℤ) (s : State) → Sim (mark s) (alloc-rule L p n s) (alloc-rule L′ p n s)
-  alloc-sim p n s = sim-otherwise _ _ p s λ k. sim-within _ _ _ p s (up _ (le .cells-le)) (same (aOk (past-cells k s)))
+  alloc-sim p n s = sim-otherwise _ _ p s λ k. sim-within _ _ _ p s (up _ (le .cells-le)) (same (aOk (past-cells p k s)))
 
 -- rounds, with the same count and then with a larger one
 abbrev Round : (test test′ : State → Outcome Val) (run run′ : State → Outcome (Unit {0})) → Type 0
@@ -234,7 +234,7 @@ module _ {r r′ : Level} (h : SimLevel r r′) where
     expr-rule-sim (abs p ps e) ρ s = same (aOk pHere)
     expr-rule-sim (alloc p t e) ρ s = sim-bind (h .expr-sim e ρ s) λ v s₁. sim-need _ p s₁ λ n. alloc-sim le p n s₁
     expr-rule-sim (nth-expr p a b) ρ s =
-        sim-bind (h .expr-sim a ρ s) λ v s₁. sim-bind (h .expr-sim b ρ s₁) λ w s₂. element-sim p v w s₂ λ k. sim-need _ p s₂ λ c. give-cell-sim c p s₂
+        sim-bind (h .expr-sim a ρ s) λ v s₁. sim-bind (h .expr-sim b ρ s₁) λ w s₂. element-sim p v w s₂ λ k. sim-need _ p s₂ λ c. give-cell-sim (c .holds) (c .made) p s₂
     expr-rule-sim (len p a) ρ s = sim-bind (h .expr-sim a ρ s) λ v s₁. sim-need _ p s₁ λ k. same (aOk pHere)
     expr-rule-sim (vset p a b c) ρ s =
         sim-bind (h .expr-sim a ρ s) λ v s₁. sim-bind (h .expr-sim b ρ s₁) λ w s₂. sim-bind (h .expr-sim c ρ s₂) λ u s₃.
@@ -248,7 +248,7 @@ module _ {r r′ : Level} (h : SimLevel r r′) where
     def-rule-sim (const p (at q x) t e) ρ s = sim-bind (h .expr-sim e ρ s) λ v s₁. make-sim le 1 p s₁ (same (aOk pHere))
     def-rule-sim (fun p (at q x) t ps e) ρ s = make-sim le 1 p s (same (aOk pHere))
     def-rule-sim (fun-rec p (at q x) t ps e) ρ s = make-sim le 1 p s (same (aOk pHere))
-    def-rule-sim (var p (at q x) t) ρ s = sim-within _ _ _ p s (up _ (le .cells-le)) (sim-lift (past-cell s) (make-sim le 1 p (with-cells (s .cells ++ none ∷ []) s) (same (aOk pHere))))
+    def-rule-sim (var p (at q x) t) ρ s = sim-within _ _ _ p s (up _ (le .cells-le)) (sim-lift (past-cell p s) (make-sim le 1 p (with-cells (s .cells ++ fresh p ∷ []) s) (same (aOk pHere))))
     def-rule-sim (proc p (at q x) ps b) ρ s = make-sim le 1 p s (same (aOk pHere))
     def-rule-sim (proc-rec p (at q x) ps b) ρ s = make-sim le 1 p s (same (aOk pHere))
 

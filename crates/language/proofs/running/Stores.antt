@@ -14,7 +14,7 @@ use Rattle.language.specs.Answers.{LimitStop, ErrorStop}
 use Rattle.language.specs.Names.{Op, Meaning, literal, operator, free, meaning, head-operator}
 use Rattle.language.specs.Numbers.{Computed, amount, fails}
 use Rattle.language.specs.Limits.{Limits}
-use Rattle.language.specs.Rules.{Val, inZ, inF, inFR, inP, inPR, inA, inB, Env, State, Why, Outcome, ok, halt, bind, need, otherwise, within, branch, take-unit, with-cells, enter, make, look, nth, behind, store, as-number, as-address, as-block, as-size, cell-in, give, give-cell, Level, exprs, args, cmds, in-block, read, name-rule, apply-rule, alloc-rule, element-rule, expr-rule, arg-rule, def-rule, rounds, stat-rule}
+use Rattle.language.specs.Rules.{Val, inZ, inF, inFR, inP, inPR, inA, inB, Env, Cell, State, Why, Outcome, ok, halt, bind, need, otherwise, within, branch, take-unit, with-cells, enter, make, look, nth, behind, fresh, store, as-number, as-address, as-block, as-size, cell-in, give, give-cell, Level, exprs, args, cmds, in-block, read, name-rule, apply-rule, alloc-rule, element-rule, expr-rule, arg-rule, def-rule, rounds, stat-rule}
 use Rattle.language.specs.Outcome.{state-of}
 use Rattle.language.specs.Claims.{OthersHold, nowhere, StoresNothing, InBlock, ExprStores, ArgStores, StatStores, StoresGoToCells}
 
@@ -35,13 +35,13 @@ nth-append [] m c h = absurd (not-suc-le-zero h)
 nth-append (x ∷ l) m zero h = refl
 nth-append (x ∷ l) m (suc c) h = nth-append l m c (le-of-suc-le-suc h)
 
-nth-store : (cs : List (Option Val)) (a : ℕ) (v : Val) (ds : List (Option Val)) → store cs a v ≡ some ds → (c : ℕ) → ¬ (c ≡ a) → nth ds c ≡ nth cs c
+nth-store : (cs : List Cell) (a : ℕ) (v : Val) (ds : List Cell) → store cs a v ≡ some ds → (c : ℕ) → ¬ (c ≡ a) → nth ds c ≡ nth cs c
 nth-store [] a v ds e c n = absurd (Option·none-ne-some _ e)
 nth-store (x ∷ cs) zero v ds e zero n = absurd (n refl)
 nth-store (x ∷ cs) zero v ds e (suc c) n = ap (λ l. nth l (suc c)) (sym (Option·some-injective _ _ e))
 nth-store (x ∷ cs) (suc a) v ds e c n = go (store cs a v) (λ l q d m. nth-store cs a v l q d m) e c n
   where
-    go : (o : Option (List (Option Val))) → ((l : List (Option Val)) → o ≡ some l → (d : ℕ) → ¬ (d ≡ a) → nth l d ≡ nth cs d) → behind x o ≡ some ds →
+    go : (o : Option (List Cell)) → ((l : List Cell) → o ≡ some l → (d : ℕ) → ¬ (d ≡ a) → nth l d ≡ nth cs d) → behind x o ≡ some ds →
         (c : ℕ) → ¬ (c ≡ suc a) → nth ds c ≡ nth (x ∷ cs) c
     go none rec e c n = absurd (Option·none-ne-some _ e)
     go (some l) rec e zero n = ap (λ l. nth l zero) (sym (Option·some-injective _ _ e))
@@ -50,11 +50,11 @@ nth-store (x ∷ cs) (suc a) v ds e c n = go (store cs a v) (λ l q d m. nth-sto
 -- ---- what is held
 
 -- cells that hold what they held, but for the cells P
-record Hold (P : ℕ → Type 0) (cs ds : List (Option Val)) : Type 0 where
+record Hold (P : ℕ → Type 0) (cs ds : List Cell) : Type 0 where
   others : (c : ℕ) → c < length cs → ¬ P c → nth ds c ≡ nth cs c
 
 -- the cells of an outcome's state do so
-data Held (P : ℕ → Type 0) (cs : List (Option Val)) {A : Type 0} : Outcome A → Type 0 where
+data Held (P : ℕ → Type 0) (cs : List Cell) {A : Type 0} : Outcome A → Type 0 where
   hOk : {a : A} {t : State} → Hold P cs (t .cells) → Held P cs (ok a t)
   hHalt : {w : Why} {p : ℕ} {t : State} → Hold P cs (t .cells) → Held P cs (halt w p t)
 
@@ -62,20 +62,20 @@ held-is : {P : ℕ → Type 0} (s : State) {A : Type 0} {o : Outcome A} → Held
 held-is s (hOk h) = h .others
 held-is s (hHalt h) = h .others
 
-module _ {P : ℕ → Type 0} {cs : List (Option Val)} where
+module _ {P : ℕ → Type 0} {cs : List Cell} where
   here : Hold P cs cs
   here = record { others = λ c lt other. refl }
 
   -- what follows and stores nothing
-  hold-on : {ds es : List (Option Val)} → Hold P cs ds → ((c : ℕ) → c < length ds → nth es c ≡ nth ds c) → Hold P cs es
+  hold-on : {ds es : List Cell} → Hold P cs ds → ((c : ℕ) → c < length ds → nth es c ≡ nth ds c) → Hold P cs es
   hold-on {ds} h k = record { others = λ c lt other. let x = nth-taken cs c lt in k c (taken-nth ds c (x .0) (h .others c lt other ∙ x .1)) ∙ h .others c lt other }
 
   -- cells are taken behind the others
-  hold-more : {ds : List (Option Val)} (m : List (Option Val)) → Hold P cs ds → Hold P cs (ds ++ m)
+  hold-more : {ds : List Cell} (m : List Cell) → Hold P cs ds → Hold P cs (ds ++ m)
   hold-more {ds} m h = hold-on h λ c lt. nth-append ds m c lt
 
   -- one of the cells P is stored to
-  hold-store : {ds es : List (Option Val)} (a : ℕ) (v : Val) → P a → store ds a v ≡ some es → Hold P cs ds → Hold P cs es
+  hold-store : {ds es : List Cell} (a : ℕ) (v : Val) → P a → store ds a v ≡ some es → Hold P cs ds → Hold P cs es
   hold-store {ds} {es} a v one e h =
       record { others = λ c lt other. nth-store ds a v es e c (λ q. other (subst P (sym q) one)) ∙ h .others c lt other }
 
@@ -115,10 +115,10 @@ module _ {P : ℕ → Type 0} {cs : List (Option Val)} where
   held-give (amount n) p t h = hOk h
   held-give (fails x) p t h = hHalt h
 
-  held-cell : (c : Option Val) (p : ℕ) (t : State) → Hold P cs (t .cells) → Held P cs (give-cell c p t)
+  held-cell : (o : Option Val) (m p : ℕ) (t : State) → Hold P cs (t .cells) → Held P cs (give-cell o m p t)
   unfolding give-cell
-  held-cell none p t h = hHalt h
-  held-cell (some v) p t h = hOk h
+  held-cell none m p t h = hHalt h
+  held-cell (some v) m p t h = hOk h
 
   held-read : (v : Val) (p : ℕ) (t : State) → Hold P cs (t .cells) → Held P cs (read v p t)
   held-read (inZ n) p t h = hOk h
@@ -126,7 +126,7 @@ module _ {P : ℕ → Type 0} {cs : List (Option Val)} where
   held-read (inFR e f xs ρ) p t h = hOk h
   held-read (inP b xs ρ) p t h = hOk h
   held-read (inPR b f xs ρ) p t h = hOk h
-  held-read (inA a) p t h = held-need _ p t h λ c _. held-cell c p t h
+  held-read (inA a) p t h = held-need _ p t h λ c _. held-cell (c .holds) (c .made) p t h
   held-read (inB a n) p t h = hOk h
 
   held-name : (m : Meaning) (o : Option Val) (p : ℕ) (t : State) → Hold P cs (t .cells) → Held P cs (name-rule m o p t)
@@ -135,7 +135,7 @@ module _ {P : ℕ → Type 0} {cs : List (Option Val)} where
   held-name free o p t h = held-need o p t h λ v _. held-read v p t h
 
   held-alloc : (L : Limits) (p : ℕ) (n : ℤ) (t : State) → Hold P cs (t .cells) → Held P cs (alloc-rule L p n t)
-  held-alloc L p n t h = held-otherwise (as-size n) _ p t h λ k _. held-within _ _ p t h (hOk (hold-more (replicate k none) h))
+  held-alloc L p n t h = held-otherwise (as-size n) _ p t h λ k _. held-within _ _ p t h (hOk (hold-more (replicate k (fresh p)) h))
 
   held-rounds : (L : Limits) (n : ℕ) (test : State → Outcome Val) (run : State → Outcome (Unit {0})) →
       ((t : State) → Hold P cs (t .cells) → Held P cs (test t)) → ((t : State) → Hold P cs (t .cells) → Held P cs (run t)) →
@@ -217,7 +217,7 @@ module _ (L : Limits) {r : Level} (n : StoresNothing r) where
   expr-held (alloc p y e) ρ s = held-bind _ (expr-h L n e ρ s here) λ v t _ h. held-need _ p t h λ z _. held-alloc L p z t h
   expr-held (nth-expr p a b) ρ s =
       held-bind _ (expr-h L n a ρ s here) λ v t _ h. held-bind _ (expr-h L n b ρ t h) λ w t₁ _ h₁.
-      held-need _ p t₁ h₁ λ k _. held-need _ p t₁ h₁ λ i _. held-otherwise _ _ p t₁ h₁ λ c _. held-need _ p t₁ h₁ λ x _. held-cell x p t₁ h₁
+      held-need _ p t₁ h₁ λ k _. held-need _ p t₁ h₁ λ i _. held-otherwise _ _ p t₁ h₁ λ c _. held-need _ p t₁ h₁ λ x _. held-cell (x .holds) (x .made) p t₁ h₁
   expr-held (len p a) ρ s = held-bind _ (expr-h L n a ρ s here) λ v t _ h. held-need _ p t h λ k _. hOk h
   expr-held (vset p a b c) ρ s =
       held-bind _ (expr-h L n a ρ s here) λ v t e h. held-bind _ (expr-h L n b ρ t h) λ w t₁ _ h₁. held-bind _ (expr-h L n c ρ t₁ h₁) λ u t₂ _ h₂.
@@ -233,7 +233,7 @@ module _ (L : Limits) {r : Level} (n : StoresNothing r) where
   def-held (fun p (at q x) y ps e) ρ s = held-within _ _ p s here (hOk here)
   def-held (fun-rec p (at q x) y ps e) ρ s = held-within _ _ p s here (hOk here)
   def-held (var p (at q x) y) ρ s =
-      let h = hold-more (none ∷ []) here in held-within _ _ p s here (held-within _ _ p (with-cells (s .cells ++ none ∷ []) s) h (hOk h))
+      let h = hold-more (fresh p ∷ []) here in held-within _ _ p s here (held-within _ _ p (with-cells (s .cells ++ fresh p ∷ []) s) h (hOk h))
   def-held (proc p (at q x) ps b) ρ s = held-within _ _ p s here (hOk here)
   def-held (proc-rec p (at q x) ps b) ρ s = held-within _ _ p s here (hOk here)
 

@@ -42,7 +42,7 @@ blocks =
     case "[CONST m (vec (vec int)) (alloc (vec int) 2); CONST r (vec (vec int)) (vset m 1 (vset (alloc int 3) 2 8)); ECHO (nth (nth m 1) 2); ECHO (len (nth m 1))]" greatest-limits
     (ends done 23 2 5 (pos 8 ∷ pos 3 ∷ [])) ∷
     case "[CONST m (vec (vec int)) (alloc (vec int) 2); ECHO (len (nth m 0))]" greatest-limits
-    (ends (stopped (error UNSET) 56) 8 1 2 []) ∷
+    (ends (stopped (error (UNSET 25)) 56) 8 1 2 []) ∷
     -- ---- SIZE, INDEX, UNSET and CELLS, at the alloc, nth or vset; a refused alloc takes no cell; SIZE comes before CELLS
     case "[ECHO (len (alloc int -1))]" greatest-limits
     (ends (stopped (error SIZE) 11) 4 0 0 []) ∷
@@ -55,7 +55,7 @@ blocks =
     case "[ECHO (nth (alloc int 0) 0)]" greatest-limits
     (ends (stopped (error INDEX) 6) 5 0 0 []) ∷
     case "[ECHO (nth (alloc int 2) 1)]" greatest-limits
-    (ends (stopped (error UNSET) 6) 5 0 2 []) ∷
+    (ends (stopped (error (UNSET 11)) 6) 5 0 2 []) ∷
     case "[VAR x int; ECHO (len (alloc int 4)); ECHO (len (alloc int 2))]" (limited 1000000 200 4096 6 4096)
     (ends (stopped (limit CELLS) 48) 9 1 5 (pos 4 ∷ [])) ∷
     case "[VAR x int; ECHO (len (alloc int 5)); ECHO (len (alloc int 0))]" (limited 1000000 200 4096 6 4096)
@@ -78,7 +78,7 @@ blocks =
     case "[VAR x int; ECHO (len (vset (alloc int -1) x 1))]" greatest-limits
     (ends (stopped (error SIZE) 28) 6 1 1 []) ∷
     case "[VAR x int; ECHO (len (vset (alloc int 1) x 1))]" greatest-limits
-    (ends (stopped (error UNSET) 42) 7 1 2 []) ∷
+    (ends (stopped (error (UNSET 1)) 42) 7 1 2 []) ∷
     case "[VAR x int; SET x (len (vset (alloc int 2) 0 1)); ECHO x]" greatest-limits
     (ends done 10 1 3 (pos 2 ∷ [])) ∷
     -- ---- FUEL and DEPTH: each of the four is an expression, its type is not entered

@@ -6,7 +6,7 @@ use Rattle.language.specs.Answers.{TYPE, DOUBLE, FUEL, DEPTH, CELLS, BIN
 use Rattle.language.specs.Names.{meaning}
 use Rattle.language.specs.Words.{wordsFrom}
 use Rattle.language.specs.Limits.{greatest-limits}
-use Rattle.language.specs.Rules.{bind, need, within, branch, give, give-cell, level}
+use Rattle.language.specs.Rules.{bind, need, otherwise, within, branch, give, give-cell, level}
 use Rattle.language.specs.Outcome.{refusal-report}
 use Rattle.language.specs.Desk.{Case, AllHold, case, ends, limited}
 use Rattle.language.proofs.reading.Machine.{set-sib, link, add-leaf, add-fork, retype, parse}
@@ -65,7 +65,7 @@ worked =
     case "[VAR x bool; ECHO (if (and false x) 1 0)]" greatest-limits
     (ends done 6 1 1 (pos 0 ∷ [])) ∷
     case "[VAR x bool; ECHO (if (and true x) 1 0)]" greatest-limits
-    (ends (stopped (error UNSET) 32) 6 1 1 []) ∷
+    (ends (stopped (error (UNSET 1)) 32) 6 1 1 []) ∷
     case "[ECHO (if (or true (lt (div 1 0) 1)) 1 0)]" greatest-limits
     (ends done 5 0 0 (pos 1 ∷ [])) ∷
     -- ---- nothing is given back at a call's end
@@ -136,12 +136,23 @@ worked =
     (refusal-report TYPE 8) ∷
     case "[CALL p 1]" greatest-limits
     (refusal-report TYPE 1) ∷
+    -- ---- UNSET also says where the cell was made: at its VAR, behind var parameters too, or at its alloc
+    case "[PROC p [var x:int] [ECHO x]; VAR u int; VAR v int; SET u 1; CALL p (adr u); CALL p (adr v)]" greatest-limits
+    (ends (stopped (error (UNSET 41)) 26) 13 5 2 (pos 1 ∷ [])) ∷
+    case "[PROC q [var y:int] [ECHO y]; PROC p [var x:int] [CALL q (adr x)]; VAR v int; CALL p (adr v)]" greatest-limits
+    (ends (stopped (error (UNSET 67)) 26) 9 5 1 []) ∷
+    case "[PROC p [n:int] [VAR a int; IF (lt n 1) [SET a 5; ECHO a] [ECHO a]]; CALL p 0; CALL p 1]" greatest-limits
+    (ends (stopped (error (UNSET 17)) 64) 21 5 2 (pos 5 ∷ [])) ∷
+    case "[VAR x int; CONST b (vec int) (alloc int 2); CONST c (vec int) (vset b 0 1); ECHO (nth c 0); ECHO (nth b 1)]" greatest-limits
+    (ends (stopped (error (UNSET 30)) 98) 17 3 3 (pos 1 ∷ [])) ∷
+    case "[FUN make (vec int) [n:int] (alloc int n); CONST b (vec int) (make 1); ECHO (nth b 0)]" greatest-limits
+    (ends (stopped (error (UNSET 28)) 76) 11 3 1 []) ∷
     []
 
 worked-computed : AllComputed worked
-unfolding outcome verdict judged-text judged-tree read wordsFrom parse add-leaf add-fork link set-sib retype descent past deep level bind need within branch give give-cell meaning andThen judged only passes single same-type judge-type judge-after judge-expr judge-arg judge-args judge-cmds
+unfolding outcome verdict judged-text judged-tree read wordsFrom parse add-leaf add-fork link set-sib retype descent past deep level bind need otherwise within branch give give-cell meaning andThen judged only passes single same-type judge-type judge-after judge-expr judge-arg judge-args judge-cmds
 worked-computed =
-    (refl, (refl, (refl, (refl, (refl, (refl, (refl, (refl, (refl, (refl, (refl, (refl, (refl, (refl, (refl, (refl, (refl, (refl, (refl, (refl, (refl, (refl, (refl, (refl, (refl, (refl, (refl, (refl, (refl, (refl, (refl, (refl, (refl, (refl, (refl, (refl, (refl, (refl, (refl, (refl, (refl, (refl, (refl, (refl, (refl, (refl, (refl, (refl, (refl, (refl, (refl, (refl, (refl, tt)))))))))))))))))))))))))))))))))))))))))))))))))))))
+    (refl, (refl, (refl, (refl, (refl, (refl, (refl, (refl, (refl, (refl, (refl, (refl, (refl, (refl, (refl, (refl, (refl, (refl, (refl, (refl, (refl, (refl, (refl, (refl, (refl, (refl, (refl, (refl, (refl, (refl, (refl, (refl, (refl, (refl, (refl, (refl, (refl, (refl, (refl, (refl, (refl, (refl, (refl, (refl, (refl, (refl, (refl, (refl, (refl, (refl, (refl, (refl, (refl, (refl, (refl, (refl, (refl, (refl, tt))))))))))))))))))))))))))))))))))))))))))))))))))))))))))
 
 pub worked-hold : AllHold worked
 worked-hold = computed-holds worked worked-computed
