@@ -13,8 +13,9 @@ use mir.Syntax.{w64}
 use mir.Val.{toZ, sel}
 use Rattle.language.specs.Answers.{LimitStop, ErrorStop, Stop, limit, error, stop-number}
 use Rattle.language.specs.Numbers.{as-bit}
+use Rattle.language.specs.Rules as Rules
 use Rattle.language.specs.Rules.{Val, Env, State, no-rule, Outcome, ok, halt, bind, need, otherwise, within, branch, as-number, as-truth, as-address, as-block}
-use Rattle.machine.specs.declared.Row.{Row}
+use Rattle.machine.specs.declared.Cell.{Cell}
 use Rattle.machine.specs.declared.Ending.{Ending}
 use Rattle.machine.specs.declared.Ending.the-variants.{NoRule}
 use Rattle.machine.specs.declared.Ending.the-variants as E
@@ -22,7 +23,7 @@ use Rattle.machine.specs.Entries.{pick, number-tag, address-tag, block-t
 use Rattle.machine.specs.State.{Tables, Ret, is, andThen}
 use Rattle.machine.specs.Machine.{onBit}
 use Rattle.machine.proofs.Lists.{Asks, asks-yes, asks-no}
-use Rattle.machine.proofs.Relation.{Stage, Kept, Thing, Old, Rep, v-num, v-fun, v-rec, v-proc, v-proc-rec, v-adr, v-block, e-none, e-bound, ValR, EnvR, CellR, c-unset, c-set, Waits, w-none, w-more, R, Grow, Sim, goes, stops, no-way, Spent, Made, Some, Waiting}
+use Rattle.machine.proofs.Relation.{Stage, Kept, Thing, Old, Rep, v-num, v-fun, v-rec, v-proc, v-proc-rec, v-adr, v-block, e-none, e-bound, ValR, EnvR, CellR, c-unset, c-set, Waits, w-none, w-more, R, Grow, Plain, plain-limit, Sim, goes, stops, unset, no-way, Spent, Made, Some, Waiting}
 use Rattle.machine.proofs.Steps.{more}
 
 pub bind-ok : {A B : Type 0} (a : A) (s : State) (k : A → State → Outcome B) → bind (ok a s) k ≡ k a s
@@ -53,7 +54,7 @@ module _ {g : Stage} where
       e-bound (le-trans l h) (o k l ∙ e) (keep u (le-refl _) (λ j s. o j (le-trans s (omega arith))))
       (keep n (le-refl _) (λ j s. o j (le-trans s (omega arith)))) q w (keep j (le-refl _) (λ j s. o j (le-trans s (omega arith))))
 
-  pub cell-keep : {b b′ : List ℕ} {c c′ : ℕ} {o : Option Val} {r : Row} → CellR g b c o r → c ≤ c′ → Old b c b′ → CellR g b′ c′ o r
+  pub cell-keep : {b b′ : List ℕ} {c c′ : ℕ} {o : Rules.Cell} {r : Cell} → CellR g b c o r → c ≤ c′ → Old b c b′ → CellR g b′ c′ o r
   cell-keep c-unset h o = c-unset
   cell-keep (c-set u) h o = c-set (keep u h o)
 
@@ -96,32 +97,37 @@ module _ {g : Stage} where
   pub some-sim : {A : Type 0} {P : List A → (t x : ℕ) → Tables → Type 0} {sp : ℕ} {m : Tables} {o : Outcome (List A)} {r : Ret} →
       Sim g (Some g P) sp m o r → Sim g P sp m o r
   some-sim (goes p s h) = goes (p .it) s h
-  some-sim (stops s) = stops s
+  some-sim (stops w s) = stops w s
+  some-sim (unset s) = unset s
   some-sim (no-way s) = no-way s
 
   module _ {A : Type 0} {P : A → (t x : ℕ) → Tables → Type 0} where
     pub sim-lift : {sp : ℕ} {m m₁ : Tables} {o : Outcome A} {r : Ret} → Grow g sp m m₁ → Sim g P sp m₁ o r → Sim g P sp m o r
     sim-lift a (goes p s h) = goes p s (grow-trans a h)
-    sim-lift a (stops s) = stops s
+    sim-lift a (stops w s) = stops w s
+    sim-lift a (unset s) = unset s
     sim-lift a (no-way s) = no-way s
 
     -- an answer that took a unit is an answer; one from a state with fewer units took one
     pub relax : {sp : ℕ} {m : Tables} {o : Outcome A} {r : Ret} → Sim g (Spent g m P) sp m o r → Sim g P sp m o r
     relax (goes p s h) = goes (p .it) s h
-    relax (stops s) = stops s
+    relax (stops w s) = stops w s
+    relax (unset s) = unset s
     relax (no-way s) = no-way s
 
     pub tighten : {sp : ℕ} {m m₁ : Tables} {o : Outcome A} {r : Ret} → m₁ .counts .units < m .counts .units → Grow g sp m m₁ → Sim g P sp m₁ o r →
         Sim g (Spent g m P) sp m o r
     tighten l a (goes p s h) = goes (record { it = p; less = omega (arith, h .fell) }) s (grow-trans a h)
-    tighten l a (stops s) = stops s
+    tighten l a (stops w s) = stops w s
+    tighten l a (unset s) = unset s
     tighten l a (no-way s) = no-way s
 
     -- an answer from a state with n bindings more made them
     pub making : (n : ℕ) {sp : ℕ} {m m₁ : Tables} {o : Outcome A} {r : Ret} → n + m .counts .bindings ≤ m₁ .counts .bindings → Sim g P sp m₁ o r →
         Sim g (Made g n m P) sp m₁ o r
     making n l (goes p s h) = goes (record { it = p; made = le-trans l (h .more) }) s h
-    making n l (stops s) = stops s
+    making n l (stops w s) = stops w s
+    making n l (unset s) = unset s
     making n l (no-way s) = no-way s
 
     -- a test of the machine alone
@@ -149,7 +155,7 @@ module _ {g : Stage} where
     sim-within true true l p f s h = h tt
     sim-within true false l p f s h = absurd (f .0 tt)
     sim-within false true l p f s h = absurd (f .1 tt)
-    sim-within false false l p f s h = stops s
+    sim-within false false l p f s h = stops (plain-limit l) s
 
   module _ {A B : Type 0} {P : A → (t x : ℕ) → Tables → Type 0} {Q : B → (t x : ℕ) → Tables → Type 0} where
     -- one part, and then the rest
@@ -158,7 +164,8 @@ module _ {g : Stage} where
         Sim g Q sp m (bind o k) (andThen r k′)
     unfolding bind andThen
     sim-bind (goes p s a) f = sim-lift a (f _ _ _ _ _ p s a)
-    sim-bind (stops s) f = stops s
+    sim-bind (stops w s) f = stops w s
+    sim-bind (unset s) f = unset s
     sim-bind (no-way s) f = no-way s
 
     -- one of some arguments, and then the others, whatever waits below
@@ -167,7 +174,8 @@ module _ {g : Stage} where
         Sim g Q 0 m (bind o k) (andThen r k′)
     unfolding bind andThen
     sim-each (goes p s a) f = sim-lift (grow-low a) (f _ _ _ _ _ p s a)
-    sim-each (stops s) f = stops s
+    sim-each (stops w s) f = stops w s
+    sim-each (unset s) f = unset s
     sim-each (no-way s) f = no-way s
 
     -- an evaluation after which no rule fits
@@ -175,7 +183,8 @@ module _ {g : Stage} where
         ((a : A) (s : State) (t x : ℕ) (m₁ : Tables) → P a t x m₁ → k a s ≡ halt no-rule p s) → Sim g Q sp m (bind o k) (andThen r λ _ _ m₁. is NoRule m₁)
     unfolding bind andThen
     sim-stuck (goes p s a) q f = rw (f _ _ _ _ _ p) (no-way s)
-    sim-stuck (stops s) q f = stops s
+    sim-stuck (stops w s) q f = stops w s
+    sim-stuck (unset s) q f = unset s
     sim-stuck (no-way s) q f = no-way s
 
     -- the rules change the answer, the machine does not
@@ -183,7 +192,8 @@ module _ {g : Stage} where
         ((a : A) (t x : ℕ) (m₁ : Tables) → P a t x m₁ → Grow g sp m m₁ → Q (f a) t x m₁) → Sim g Q sp m (bind o (λ a s. ok (f a) s)) r
     unfolding bind
     sim-map h (goes p s a) f = goes (f _ _ _ _ p a) s a
-    sim-map h (stops s) f = stops s
+    sim-map h (stops w s) f = stops w s
+    sim-map h (unset s) f = unset s
     sim-map h (no-way s) f = no-way s
 
   -- arguments, and then what makes a binding of each
@@ -197,7 +207,8 @@ module _ {g : Stage} where
           waits = λ k l b. h .waits k l (omega (arith, a .more, b)) ∙ w .keeps k l (omega (arith, p .made, b));
           fell = le-trans (h .fell) (a .fell);
         })
-    called w a (stops s) = stops s
+    called w a (stops v s) = stops v s
+    called w a (unset s) = unset s
     called w a (no-way s) = no-way s
 
     pub sim-call : {sp : ℕ} {m : Tables} {o : Outcome (List Val)} {r : Ret} {k : List Val → State → Outcome B} {k′ : ℕ → ℕ → Tables → Ret} →
@@ -206,7 +217,8 @@ module _ {g : Stage} where
         Sim g (Made g (length us) m₁ Q) sp m₁ (k us s) (k′ t x m₁)) → Sim g Q sp m (bind o k) (andThen r k′)
     unfolding bind andThen
     sim-call (goes w s a) f = called w a (f _ _ _ _ _ w s a)
-    sim-call (stops s) f = stops s
+    sim-call (stops w s) f = stops w s
+    sim-call (unset s) f = unset s
     sim-call (no-way s) f = no-way s
 
   -- parts of the rules that the machine has in one
@@ -228,7 +240,8 @@ module _ {g : Stage} where
         Sim g Q sp m o (andThen r k)
     unfolding andThen
     sim-end (goes p s a) f = sim-lift a (f _ _ _ _ _ p s a)
-    sim-end (stops s) f = stops s
+    sim-end (stops w s) f = stops w s
+    sim-end (unset s) f = unset s
     sim-end (no-way s) f = no-way s
 
   module _ {A B : Type 0} {P : B → (t x : ℕ) → Tables → Type 0} {Q : A → Type 0} where
@@ -247,11 +260,11 @@ module _ {g : Stage} where
     end-need p asks-no s f = no-way s
 
     -- what a script must see to
-    pub sim-otherwise : {o : Option A} {b : Bool} (x : ErrorStop) (p : ℕ) {s : State} {sp : ℕ} {m : Tables} {k : A → Outcome B} {r : Ret} → Asks Q o b → R g s m →
+    pub sim-otherwise : {o : Option A} {b : Bool} {x : ErrorStop} → Plain (error x) → (p : ℕ) {s : State} {sp : ℕ} {m : Tables} {k : A → Outcome B} {r : Ret} → Asks Q o b → R g s m →
         ((a : A) → Q a → Sim g P sp m (k a) r) → Sim g P sp m (otherwise o x p s k) (pick b (λ _. r) (λ _. is (E.Stop (stop-number (error x)) p) m))
     unfolding otherwise pick
-    sim-otherwise x p (asks-yes q) s f = f _ q
-    sim-otherwise x p asks-no s f = stops s
+    sim-otherwise w p (asks-yes q) s f = f _ q
+    sim-otherwise w p asks-no s f = stops w s
 
   -- ---- the forms of values
 

@@ -10,7 +10,7 @@ use lib.IntN.{ℤ, pos, negsuc}
 use lib.ListN.{length}
 use mir.Syntax.{w64}
 use mir.Val.{toZ, sel}
-use Rattle.language.specs.Answers.{SIZE, INDEX}
+use Rattle.language.specs.Answers.{INDEX}
 use Rattle.language.specs.Rules.{Val, inZ, inB, State, Outcome, ok, need, otherwise, nth, store, as-number, as-block, as-size, cell-in, give-cell, with-cells, alloc-rule, element-rule}
 use Rattle.machine.specs.declared.Ending.{Ending}
 use Rattle.machine.specs.declared.Ending.the-variants.{Value, NoRule}
@@ -20,7 +20,7 @@ use Rattle.machine.specs.State.{Tables, Ret, is, andThen, ifValue, newCe
 use Rattle.machine.specs.Leaves.{elementOf, elementValue, lengthValue, setElement, allocate, cellValue}
 use Rattle.machine.proofs.Entries.{closure-node, closure-env}
 use Rattle.machine.proofs.Lists.{Asks, asks-yes, asks-no, asks-stored}
-use Rattle.machine.proofs.Relation.{Stage, run-of, v-block, R, Sim, goes, stops, no-way, IsVal}
+use Rattle.machine.proofs.Relation.{Stage, run-of, v-block, R, plain-size, plain-index, Sim, goes, stops, no-way, IsVal}
 use Rattle.machine.proofs.Agree.{grow-self, sim-need, sim-otherwise, sim-within, end-need, asks-num, asks-block}
 use Rattle.machine.proofs.States.{r-cells, r-store}
 use Rattle.machine.proofs.Operate.{number-val}
@@ -61,6 +61,7 @@ ends-then : (e : Ending) (m : Tables) (k : ℕ → ℕ → Ending) → is (ifVal
 unfolding andThen
 ends-then (Value t x) m k = refl
 ends-then (E.Stop n p) m k = refl
+ends-then (E.Unset p q) m k = refl
 ends-then NoRule m k = refl
 
 module _ {g : Stage} where
@@ -72,7 +73,7 @@ module _ {g : Stage} where
         Sim g P sp m (otherwise o INDEX p s k) (andThen (is (pick b (λ _. Value address-tag a) λ _. E.Stop 29 p) m) k′)
     unfolding otherwise andThen pick
     element-cell p a k′ (asks-yes h) r f = rw h (f a)
-    element-cell p a k′ asks-no r f = stops r
+    element-cell p a k′ asks-no r f = stops plain-index r
 
     element-tests : (p x y : ℕ) {o : Option (ℕ × ℕ)} {i : Option ℤ} {b c : Bool} {sp : ℕ} {s : State} {m : Tables} {k : ℕ → Outcome Val} (k′ : ℕ → ℕ → Tables → Ret) →
         Asks (λ k. k ≡ (firstOf x, lengthOf x)) o b → Asks (λ z. z ≡ toZ w64 y) i c → R g s m → ((c : ℕ) → Sim g P sp m (k c) (k′ address-tag c m)) →
@@ -90,7 +91,7 @@ module _ {g : Stage} where
     element-sim p {x = x} {y = y} k′ a b r f = element-tests p x y k′ (asks-block a) (asks-num b) r f
 
   pub nth-sim : (p : ℕ) {t x u y sp : ℕ} {v w : Val} {s : State} {m : Tables} → IsVal g v t x m → IsVal g w u y m → R g s m →
-      Sim g (IsVal g) sp m (element-rule p v w s λ k. need (nth (s .cells) k) p s λ c. give-cell c p s)
+      Sim g (IsVal g) sp m (element-rule p v w s λ k. need (nth (s .cells) k) p s λ c. give-cell (c .holds) (c .made) p s)
       (is (elementValue (m .cells) (m .counts .cells) p (row t x) (row u y)) m)
   unfolding elementValue
   nth-sim p {t} {x} {u} {y} {m = m} a b r =
@@ -119,12 +120,12 @@ module _ {g : Stage} where
       subst (λ (i : ℕ). IsVal g (inB i n) block-tag (blockWord a n) m) (closure-node a n h)
       (subst (λ (j : ℕ). IsVal g (inB (firstOf (blockWord a n)) j) block-tag (blockWord a n) m) (closure-env a n k) (v-block (blockWord a n)))
 
-  pub alloc-sim : (p : ℕ) {t x sp : ℕ} {v : Val} {s : State} {m : Tables} → IsVal g v t x m → R g s m →
+  pub alloc-sim : (p : ℕ) {t x sp : ℕ} {v : Val} {s : State} {m : Tables} → p < 65536 → IsVal g v t x m → R g s m →
       Sim g (IsVal g) sp m (need (as-number v) p s λ n. alloc-rule g.limits p n s) (allocate (run-of g) p (row t x) m)
   unfolding allocate
-  alloc-sim p {x = x} {m = m} a r =
-      sim-need p (asks-num a) r λ z e. rw e (sim-otherwise SIZE p (asks-size x) r λ k h.
+  alloc-sim p {x = x} {m = m} w a r =
+      sim-need p (asks-num a) r λ z e. rw e (sim-otherwise plain-size p (asks-size x) r λ k h.
       rw (h, r .cells) (sim-within _ _ _ _ (λ h. h, λ h. h) r λ c.
       let l : x + m .counts .cells ≤ g.limits .cells = leb→le _ _ c in
-      goes (block-value (m .counts .cells) x (newCells x m) (omega (arith, r .roomy .few-cells)) (omega (arith, r .roomy .few-cells))) (r-cells r x l)
+      goes (block-value (m .counts .cells) x (newCells x p m) (omega (arith, r .roomy .few-cells)) (omega (arith, r .roomy .few-cells))) (r-cells r x p w l)
       (record { more = le-refl _; old = λ k h. refl; waits = λ k s h. refl; fell = le-refl _ })))

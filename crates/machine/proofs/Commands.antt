@@ -17,7 +17,7 @@ use Rattle.machine.specs.Codes.{defined, Used, CodedD, CodedS, CodedB}
 use Rattle.machine.specs.State.{Tables}
 use Rattle.machine.specs.Leaves.{define, defineCell}
 use Rattle.machine.specs.Machine.{Evaluators, constC, echoC, setC, blockC, ifC, callC, rounds, cmdBy, cmdIn}
-use Rattle.machine.proofs.Entries.{child-small, next-small}
+use Rattle.machine.proofs.Entries.{place-small, child-small, next-small}
 use Rattle.machine.proofs.Lists.{asks-stored, room-one}
 use Rattle.machine.proofs.Relation.{Stage, run-of, slot, v-adr, R, Sim, goes, Spent, IsEnv, IsDone, Here, Adeq, Named, IsVal, node, scope, InE, InAs, InB}
 use Rattle.machine.proofs.Agree.{keep, grow-self, sim-lift, relax, making, sim-within, sim-bind, sim-call, sim-end, sim-need, asks-num, sim-bit}
@@ -50,7 +50,7 @@ module _ {g : Stage} where
       rw (r .cells) (sim-within _ _ _ _ (λ h. h, λ h. h) r λ e.
       let c : m .counts .cells < g.limits .cells = ltb→lt _ _ e in
       sim-lift (record { more = le-refl _; old = λ k h. refl; waits = λ k s h. refl; fell = le-refl _ })
-      (define-sim _ z v-adr n (r-cells r 1 (omega (arith, c)))))
+      (define-sim _ z v-adr n (r-cells r 1 _ (place-small (g.script .tree) i) (omega (arith, c)))))
 
   module _ {l : Level} {S : Evaluators} (h : Adeq g l S) where
     const-sim : (i : ℕ) (z : Name) (y : TypeTree) {e : Expr} {ρ : Env} {env sp : ℕ} {s : State} {m : Tables} →

@@ -10,8 +10,9 @@ use lib.ListN.{length, getD, set, drop, length-set}
 use lib.Seq.{getD-set-same, getD-set-other, drop-set-lt}
 use Rattle.nodes.specs.Nodes.{nodeAt}
 use Rattle.nodes.proofs.Links.{below-or-not}
+use Rattle.machine.specs.declared.Cell.{Cell}
 use Rattle.machine.specs.declared.Binding.{Binding}
-use Rattle.machine.specs.Entries.{pick, most-rows, row, rowAt, putRow, putRows, binding, headOf, bindingOf, bindingAt, putBinding, closureWord, nodeOf, envOf}
+use Rattle.machine.specs.Entries.{pick, most-rows, row, rowAt, putRow, cell, cellHead, cellOf, cellAt, putCell, putCells, binding, headOf, bindingOf, bindingAt, putBinding, closureWord, nodeOf, envOf}
 use Rattle.machine.proofs.Members.{pick-true}
 
 row-eq : {t t′ x x′ : ℕ} → t ≡ t′ → x ≡ x′ → row t x ≡ row t′ x′
@@ -73,33 +74,61 @@ module _ (l : List ℕ) (k t x : ℕ) where
       pick-true (ltb k most-rows) _ _ (lt→ltb k most-rows m) ∙
       ap (λ (w : List ℕ). row (getD w (2 * k) 0) (getD w (2 * k + 1) 0)) (pick-true (ltb k most-rows) (λ _. written) _ (lt→ltb k most-rows m)) ∙ own h
 
--- the same row n times
-module _ (t x : ℕ) where
-  pub rows-length : (n : ℕ) (l : List ℕ) (k : ℕ) → length (putRows n l k t x) ≡ length l
-  unfolding putRows
-  rows-length zero l k = refl
-  rows-length (suc n) l k = rows-length n (putRow l k t x) (suc k) ∙ row-length l k t x
+-- a cell's parts that fit 16 bits come back
+cell-eq : {p p′ t t′ x x′ : ℕ} → p ≡ p′ → t ≡ t′ → x ≡ x′ → cell p t x ≡ cell p′ t′ x′
+cell-eq a b c = rw (a, b, c)
 
-  pub rows-beyond : (n : ℕ) (l : List ℕ) (k r : ℕ) → 2 * (n + k) ≤ r → drop r (putRows n l k t x) ≡ drop r l
-  unfolding putRows
-  rows-beyond zero l k r h = refl
-  rows-beyond (suc n) l k r h = rows-beyond n (putRow l k t x) (suc k) r (omega arith) ∙ row-beyond l k t x r (omega arith)
+cell-back : (p t x : ℕ) → p < 65536 → t < 65536 → cellOf (row (cellHead p t) x) ≡ cell p t x
+cell-back p t x hp ht = cell-eq (omega arith) (omega arith) refl
 
-  pub rows-before : (n : ℕ) (l : List ℕ) (k j : ℕ) → j < k → rowAt (putRows n l k t x) j ≡ rowAt l j
-  unfolding putRows
-  rows-before zero l k j h = refl
-  rows-before (suc n) l k j h = rows-before n (putRow l k t x) (suc k) j (omega arith) ∙ row-other l k t x j (omega arith)
+pub made-small : (l : List ℕ) (k : ℕ) → cellAt l k .made < 65536
+unfolding cellAt
+made-small l k = omega arith
 
-  pub rows-own : (n : ℕ) (l : List ℕ) (k j : ℕ) → k ≤ j → j < n + k → n + k ≤ most-rows → 2 * (n + k) ≤ length l → rowAt (putRows n l k t x) j ≡ row t x
-  unfolding putRows
-  rows-own zero l k j a b c d = absurd (omega arith)
-  rows-own (suc n) l k j a b c d =
-      ⊎-elim (λ h. rows-own n (putRow l k t x) (suc k) j h (omega arith) (omega arith) (let e = row-length l k t x in omega (arith, e)))
-      (λ h. rows-before n (putRow l k t x) (suc k) j (omega arith) ∙ (ap (λ (i : ℕ). rowAt (putRow l k t x) i) (same j k a h) ∙ row-own l k t x (omega arith) (omega arith)))
+module _ (c : Cell) where
+  pub cell-length : (l : List ℕ) (k : ℕ) → length (putCell l k c) ≡ length l
+  unfolding putCell
+  cell-length l k = row-length l k _ _
+
+  pub cell-beyond : (l : List ℕ) (k r : ℕ) → 2 * suc k ≤ r → drop r (putCell l k c) ≡ drop r l
+  unfolding putCell
+  cell-beyond l k r h = row-beyond l k _ _ r h
+
+  pub cell-other : (l : List ℕ) (k j : ℕ) → j ≢ k → cellAt (putCell l k c) j ≡ cellAt l j
+  unfolding cellAt putCell
+  cell-other l k j h = ap cellOf (row-other l k _ _ j h)
+
+  pub cell-own : (l : List ℕ) (k : ℕ) → c .made < 65536 → c .tag < 65536 → k < most-rows → 2 * suc k ≤ length l → cellAt (putCell l k c) k ≡ c
+  unfolding cellAt putCell
+  cell-own l k hp ht m h = ap cellOf (row-own l k _ _ m h) ∙ cell-back (c .made) (c .tag) (c .word) hp ht
+
+  -- n times
+  pub cells-length : (n : ℕ) (l : List ℕ) (k : ℕ) → length (putCells n l k c) ≡ length l
+  unfolding putCells
+  cells-length zero l k = refl
+  cells-length (suc n) l k = cells-length n (putCell l k c) (suc k) ∙ cell-length l k
+
+  pub cells-beyond : (n : ℕ) (l : List ℕ) (k r : ℕ) → 2 * (n + k) ≤ r → drop r (putCells n l k c) ≡ drop r l
+  unfolding putCells
+  cells-beyond zero l k r h = refl
+  cells-beyond (suc n) l k r h = cells-beyond n (putCell l k c) (suc k) r (omega arith) ∙ cell-beyond l k r (omega arith)
+
+  pub cells-before : (n : ℕ) (l : List ℕ) (k j : ℕ) → j < k → cellAt (putCells n l k c) j ≡ cellAt l j
+  unfolding putCells
+  cells-before zero l k j h = refl
+  cells-before (suc n) l k j h = cells-before n (putCell l k c) (suc k) j (omega arith) ∙ cell-other l k j (omega arith)
+
+  same : (j k : ℕ) → k ≤ j → j ≤ k → j ≡ k
+  same j k h i = omega arith
+
+  pub cells-own : c .made < 65536 → c .tag < 65536 → (n : ℕ) (l : List ℕ) (k j : ℕ) → k ≤ j → j < n + k → n + k ≤ most-rows → 2 * (n + k) ≤ length l →
+      cellAt (putCells n l k c) j ≡ c
+  unfolding putCells
+  cells-own hp ht zero l k j a b e d = absurd (omega arith)
+  cells-own hp ht (suc n) l k j a b e d =
+      ⊎-elim (λ h. cells-own hp ht n (putCell l k c) (suc k) j h (omega arith) (omega arith) (let q = cell-length l k in omega (arith, q)))
+      (λ h. cells-before n (putCell l k c) (suc k) j (omega arith) ∙ (ap (λ (i : ℕ). cellAt (putCell l k c) i) (same j k a h) ∙ cell-own l k hp ht (omega arith) (omega arith)))
       (below-or-not k j)
-    where
-      same : (j k : ℕ) → k ≤ j → j ≤ k → j ≡ k
-      same j k h i = omega arith
 
 -- a binding's parts that fit 16 bits come back
 binding-back : (c t x l j : ℕ) → c < 65536 → t < 65536 → l < 65536 → j < 65536 → bindingOf (row (headOf c t l j) x) ≡ binding c t x l j
@@ -132,6 +161,10 @@ unfolding envOf closureWord
 closure-env i env h = omega arith
 
 -- the parts of a node fit 16 bits
+pub place-small : (tree : List ℕ) (i : ℕ) → nodeAt tree i .place < 65536
+unfolding nodeAt
+place-small tree i = omega arith
+
 pub child-small : (tree : List ℕ) (i : ℕ) → nodeAt tree i .child < 65536
 unfolding nodeAt
 child-small tree i = omega arith

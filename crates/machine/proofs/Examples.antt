@@ -19,7 +19,7 @@ use Rattle.language.proofs.reading.Descent.{descent}
 use Rattle.language.proofs.reading.Reader.{past, deep, read}
 use Rattle.nodes.specs.Nodes.{nodeAt}
 use Rattle.nodes.specs.Written.{numberAt}
-use Rattle.machine.specs.Entries.{pick, rowAfter, rowAt, putRow, putRows, bindingAt, putBinding, closureWord, nodeOf, envOf}
+use Rattle.machine.specs.Entries.{pick, rowAfter, rowAt, putRow, cellAt, putCell, putCells, bindingAt, putBinding, closureWord, nodeOf, envOf}
 use Rattle.machine.specs.State.{andThen, guard}
 use Rattle.machine.specs.Codes.{codeOver, levelIn, operatorAt, codeFor, after, ownOf, entry, rowCodes, codesOf}
 use Rattle.machine.specs.Leaves.{codeIn, jumpIn, jumpFrom, bindingBehind, walk, boundTo, addressOf, cellValue, readThrough, nameValue, computedBy, negated, combined, elementOf, elementValue, lengthValue, setElement, isParam, bodyAfter, bindAll, enter, enterAgain, openFunction, openProcedure, define, defineCell, allocate}
@@ -63,9 +63,10 @@ scripts =
     case "[ECHO (len (alloc int -1))]" (limited 100 20 4 0 4) (ends (stopped (error SIZE) 11) 4 0 0 []) ∷
     case "[ECHO (nth (alloc int 2) -1)]" (limited 100 20 4 6 4) (ends (stopped (error INDEX) 6) 5 0 2 []) ∷
     case "[ECHO (len (vset (alloc int 2) 2 0))]" (limited 100 20 4 6 4) (ends (stopped (error INDEX) 11) 7 0 2 []) ∷
-    case "[ECHO (nth (alloc int 2) 1)]" (limited 100 20 4 6 4) (ends (stopped (error UNSET) 6) 5 0 2 []) ∷
+    case "[ECHO (nth (alloc int 2) 1)]" (limited 100 20 4 6 4) (ends (stopped (error (UNSET 11)) 6) 5 0 2 []) ∷
+    case "[PROC p [var x:int] [ECHO x]; VAR v int; CALL p (adr v)]" (limited 100 20 4 6 4) (ends (stopped (error (UNSET 30)) 26) 6 3 1 []) ∷
     []
 
 scripts-shown : AllShown scripts
-unfolding read wordsFrom parse add-leaf add-fork link set-sib retype descent past deep table enc size first shapeType shapeTypes shapeArg shapeArgs shapeArgP shapeArgsP shapeExpr shapeExprs shapeExprP shapeExprsP shapeCmds shapeDef shapeStat shapeBlock meaning nodeAt numberAt pick rowAfter rowAt putRow putRows bindingAt putBinding closureWord nodeOf envOf andThen guard codeOver levelIn operatorAt codeFor after ownOf entry rowCodes codesOf codeIn jumpIn jumpFrom bindingBehind walk boundTo addressOf cellValue readThrough nameValue computedBy negated combined elementOf elementValue lengthValue setElement isParam bodyAfter bindAll enter enterAgain openFunction openProcedure define defineCell allocate onBit args allArgs ifE andE orE operatorE callE applyE allocE nthE lenE vsetE exprBy constC echoC setC blockC ifC callC round rounds cmdBy cmdIn cmds step bottom evaluators blockAt program
-scripts-shown = (refl, (refl, (refl, (refl, (refl, (refl, (refl, (refl, (refl, (refl, (refl, (refl, (refl, (refl, (refl, (refl, tt))))))))))))))))
+unfolding read wordsFrom parse add-leaf add-fork link set-sib retype descent past deep table enc size first shapeType shapeTypes shapeArg shapeArgs shapeArgP shapeArgsP shapeExpr shapeExprs shapeExprP shapeExprsP shapeCmds shapeDef shapeStat shapeBlock meaning nodeAt numberAt pick rowAfter rowAt putRow cellAt putCell putCells bindingAt putBinding closureWord nodeOf envOf andThen guard codeOver levelIn operatorAt codeFor after ownOf entry rowCodes codesOf codeIn jumpIn jumpFrom bindingBehind walk boundTo addressOf cellValue readThrough nameValue computedBy negated combined elementOf elementValue lengthValue setElement isParam bodyAfter bindAll enter enterAgain openFunction openProcedure define defineCell allocate onBit args allArgs ifE andE orE operatorE callE applyE allocE nthE lenE vsetE exprBy constC echoC setC blockC ifC callC round rounds cmdBy cmdIn cmds step bottom evaluators blockAt program
+scripts-shown = (refl, (refl, (refl, (refl, (refl, (refl, (refl, (refl, (refl, (refl, (refl, (refl, (refl, (refl, (refl, (refl, (refl, tt)))))))))))))))))

@@ -23,7 +23,7 @@ use Rattle.machine.specs.Codes.{operatorNo, CodedE, CodedEs, CodedA, Cod
 use Rattle.machine.specs.State.{Tables, Ret, is, spend, push}
 use Rattle.machine.specs.Machine.{Evaluators, allArgs, ifE, andE, orE, operatorE, callE, applyE, allocE, nthE, lenE, vsetE, exprBy}
 use Rattle.machine.specs.Machine as M
-use Rattle.machine.proofs.Entries.{row-own, row-other, child-small}
+use Rattle.machine.proofs.Entries.{row-own, row-other, place-small, child-small}
 use Rattle.machine.proofs.Relation.{Stage, run-of, slot, v-num, w-none, w-more, R, Grow, Sim, goes, IsVal, Some, Waiting, Here, Adeq, node, code, scope, InE, InEs, InAs}
 use Rattle.machine.proofs.Agree.{keep, grow-self, sim-lift, relax, some-sim, making, sim-yes, sim-no, sim-bind, sim-each, sim-call, sim-stuck, sim-map, sim-ok, sim-after, bind-ok, sim-bit}
 use Rattle.machine.proofs.States.{r-push}
@@ -184,7 +184,7 @@ module _ {g : Stage} where
     alloc-expr : (i : ℕ) (y : TypeTree) {a : Expr} {ρ : Env} {env sp : ℕ} {s : State} {m : Tables} → InE g (scope ρ) (next g.script (child g.script i)) a → Here g ρ env s m →
         Sim g (IsVal g) sp m (expr-rule g.limits l (alloc (place g.script i) y a) ρ s) (allocE (run-of g) S env (slot sp) (node g i) m)
     unfolding allocE
-    alloc-expr i y a x = sim-bind (h .onE a x) λ u s₁ t z m₁ v r₁ gr. alloc-sim _ (v .it) r₁
+    alloc-expr i y a x = sim-bind (h .onE a x) λ u s₁ t z m₁ v r₁ gr. alloc-sim _ (place-small (g.script .tree) i) (v .it) r₁
 
     nth-of : (i : ℕ) {a b : Expr} {ρ : Env} {env sp : ℕ} {s : State} {m : Tables} → InE g (scope ρ) (child g.script i) a →
         InE g (scope ρ) (next g.script (child g.script i)) b → Here g ρ env s m →

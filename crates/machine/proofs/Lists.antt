@@ -11,7 +11,7 @@ use lib.Dec.{T, ltb, leb, leb→le, le→leb, ltb→lt, lt→ltb, leb·zero, leb
 use lib.IntN.{ℤ, pos}
 use lib.ListN.{length, getD, set, drop, replicate, length-append}
 use lib.Seq.{drop-cons, set-append-seam}
-use Rattle.language.specs.Rules.{Val, nth, behind, store}
+use Rattle.language.specs.Rules.{Val, Cell, nth, behind, store}
 use Rattle.nodes.proofs.Links.{below-or-not}
 
 -- a form is asked for: by the rules as an option, by the machine as a test
@@ -58,37 +58,46 @@ put-more : {A : Type 0} {l : List A} {x y : A} {a b : ℕ} {c : A} → Put l a x
 put-more (here e h) = here (ap suc e) h
 put-more (there n h) = there (omega arith) h
 
+-- the cell c with the value v in it
+abbrev pub holding : Cell → Val → Cell
+holding c v = record { made = c .made; holds = some v }
+
 -- cells with the value v in the cell a
-pub record Stored (l : List (Option Val)) (a : ℕ) (v : Val) (r : List (Option Val)) : Type 0 where
+pub record Stored (l : List Cell) (a : ℕ) (v : Val) (r : List Cell) : Type 0 where
+  pub was : Cell
+  pub before : nth l a ≡ some was
   pub within : a < length l
   pub long : length r ≡ length l
-  pub puts : (b : ℕ) (c : Option Val) → nth r b ≡ some c → Put l a (some v) b c
+  pub puts : (b : ℕ) (c : Cell) → nth r b ≡ some c → Put l a (holding was v) b c
 
-stored-here : (x : Option Val) (l : List (Option Val)) (v : Val) (b : ℕ) (c : Option Val) → nth (some v ∷ l) b ≡ some c → Put (x ∷ l) 0 (some v) b c
+stored-here : (x : Cell) (l : List Cell) (v : Val) (b : ℕ) (c : Cell) → nth (holding x v ∷ l) b ≡ some c → Put (x ∷ l) 0 (holding x v) b c
 stored-here x l v zero c h = here refl (Option·some-injective _ _ h)
 stored-here x l v (suc b) c h = there (omega arith) h
 
-stored-there : (x : Option Val) (l r : List (Option Val)) (a : ℕ) (v : Val) → ((b : ℕ) (c : Option Val) → nth r b ≡ some c → Put l a (some v) b c) →
-    (b : ℕ) (c : Option Val) → nth (x ∷ r) b ≡ some c → Put (x ∷ l) (suc a) (some v) b c
-stored-there x l r a v f zero c h = there (omega arith) h
-stored-there x l r a v f (suc b) c h = put-more (f b c h)
+stored-there : (x y : Cell) (l r : List Cell) (a : ℕ) → ((b : ℕ) (c : Cell) → nth r b ≡ some c → Put l a y b c) → (b : ℕ) (c : Cell) → nth (x ∷ r) b ≡ some c →
+    Put (x ∷ l) (suc a) y b c
+stored-there x y l r a f zero c h = there (omega arith) h
+stored-there x y l r a f (suc b) c h = put-more (f b c h)
 
-stored-behind : (x : Option Val) {l : List (Option Val)} {a : ℕ} {v : Val} {o : Option (List (Option Val))} {t : Bool} →
+stored-behind : (x : Cell) {l : List Cell} {a : ℕ} {v : Val} {o : Option (List Cell)} {t : Bool} →
     Asks (Stored l a v) o t → Asks (Stored (x ∷ l) (suc a) v) (behind x o) t
 stored-behind x (asks-yes s) = asks-yes (record {
+  was = s .was;
+  before = s .before;
   within = let h = s .within in omega (arith, h);
   long = ap suc (s .long);
   puts = stored-there x _ _ _ _ (s .puts);
 })
 stored-behind x asks-no = asks-no
 
-asks-store : (l : List (Option Val)) (a : ℕ) (v : Val) → Asks (Stored l a v) (store l a v) (ltb a (length l))
+asks-store : (l : List Cell) (a : ℕ) (v : Val) → Asks (Stored l a v) (store l a v) (ltb a (length l))
 asks-store [] a v = rw (leb·suc-zero a) asks-no
 asks-store (x ∷ l) zero v =
-    rw (leb·suc-suc 0 (length l), leb·zero (length l)) (asks-yes (record { within = omega arith; long = refl; puts = stored-here x l v }))
+    rw (leb·suc-suc 0 (length l), leb·zero (length l))
+    (asks-yes (record { was = x; before = refl; within = omega arith; long = refl; puts = stored-here x l v }))
 asks-store (x ∷ l) (suc a) v = rw (leb·suc-suc (suc a) (length l)) (stored-behind x (asks-store l a v))
 
-pub asks-stored : (l : List (Option Val)) (a n : ℕ) (v : Val) → length l ≡ n → Asks (Stored l a v) (store l a v) (ltb a n)
+pub asks-stored : (l : List Cell) (a n : ℕ) (v : Val) → length l ≡ n → Asks (Stored l a v) (store l a v) (ltb a n)
 asks-stored l a n v h = rw (← h) (asks-store l a v)
 
 -- ---- the output: the numbers put out, and what was there behind them

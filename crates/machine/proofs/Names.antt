@@ -10,9 +10,10 @@ use lib.Dec.{T, eqb, ltb, ltb→lt}
 use Rattle.language.specs.Bytes.{same-bytes}
 use Rattle.language.specs.Syntax.{Name}
 use Rattle.language.specs.Names.{Op, not, eq, lt, add, sub, mul, div, Meaning, literal, operator, free, meaning, unless-nine}
+use Rattle.language.specs.Rules as Rules
 use Rattle.language.specs.Rules.{Val, inA, Env, State, Outcome, ok, need, look, nth, as-address, give-cell, read, name-rule}
 use Rattle.nodes.specs.Names.{meaningNo}
-use Rattle.machine.specs.declared.Row.{Row}
+use Rattle.machine.specs.declared.Cell.{Cell}
 use Rattle.machine.specs.declared.Ending.{Ending}
 use Rattle.machine.specs.declared.Ending.the-variants.{Value, NoRule}
 use Rattle.machine.specs.declared.Ending.the-variants as E
@@ -21,7 +22,7 @@ use Rattle.machine.specs.State.{Tables, Ret, is, andThen, ifValue}
 use Rattle.machine.specs.Leaves.{boundTo, addressOf, cellValue, readThrough, nameValue, walk}
 use Rattle.machine.specs.Codes.{codeOver, levelIn, codeBy, Used}
 use Rattle.machine.proofs.Lists.{asks-nth}
-use Rattle.machine.proofs.Relation.{Stage, v-num, v-fun, v-rec, v-proc, v-proc-rec, v-adr, v-block, ValR, EnvR, Found, found, lost, CellR, c-unset, c-set, R, Sim, goes, stops, no-way, IsVal, Named, code, scope}
+use Rattle.machine.proofs.Relation.{Stage, v-num, v-fun, v-rec, v-proc, v-proc-rec, v-adr, v-block, ValR, EnvR, Found, found, lost, CellR, c-unset, c-set, R, Sim, goes, unset, no-way, IsVal, Named, code, scope}
 use Rattle.machine.proofs.Chain.{over-least, name-finds}
 use Rattle.machine.proofs.Agree.{grow-self, end-need}
 
@@ -133,21 +134,21 @@ module _ {g : Stage} where
   not-unset v-adr h = h
   not-unset (v-block x) h = h
 
-  set-cell : (b : Bool) {u : Val} {t x : ℕ} (p : ℕ) {sp : ℕ} {s : State} {m : Tables} → (T b → ⊥) → IsVal g u t x m → R g s m →
-      Sim g (IsVal g) sp m (ok u s) (is (pick b (λ _. E.Stop 27 p) λ _. Value t x) m)
+  set-cell : (b : Bool) {u : Val} {t x : ℕ} (p q : ℕ) {sp : ℕ} {s : State} {m : Tables} → (T b → ⊥) → IsVal g u t x m → R g s m →
+      Sim g (IsVal g) sp m (ok u s) (is (pick b (λ _. E.Unset p q) λ _. Value t x) m)
   unfolding pick
-  set-cell true p h v r = absurd (h tt)
-  set-cell false p h v r = goes v r grow-self
+  set-cell true p q h v r = absurd (h tt)
+  set-cell false p q h v r = goes v r grow-self
 
-  cell-sim : (p : ℕ) {sp : ℕ} {s : State} {m : Tables} {o : Option Val} {r : Row} → R g s m → CellR g (m .bindings) (m .counts .bindings) o r →
-      Sim g (IsVal g) sp m (give-cell o p s) (is (pick (eqb (r .tag) unset-tag) (λ _. E.Stop 27 p) λ _. Value (r .tag) (r .word)) m)
+  cell-sim : (p : ℕ) {sp : ℕ} {s : State} {m : Tables} {o : Rules.Cell} {r : Cell} → R g s m → CellR g (m .bindings) (m .counts .bindings) o r →
+      Sim g (IsVal g) sp m (give-cell (o .holds) (o .made) p s) (is (pick (eqb (r .tag) unset-tag) (λ _. E.Unset p (r .made)) λ _. Value (r .tag) (r .word)) m)
   unfolding give-cell pick
-  cell-sim p r c-unset = stops r
-  cell-sim p r (c-set {t = t} u) = set-cell (eqb t unset-tag) p (not-unset u) u r
+  cell-sim p r c-unset = unset r
+  cell-sim p r (c-set {p = q} {t = t} u) = set-cell (eqb t unset-tag) p q (not-unset u) u r
 
   -- the cell a is asked for
   pub held-sim : (p a : ℕ) {sp : ℕ} {s : State} {m : Tables} → R g s m →
-      Sim g (IsVal g) sp m (need (nth (s .cells) a) p s λ c. give-cell c p s) (is (cellValue (m .cells) (m .counts .cells) p a) m)
+      Sim g (IsVal g) sp m (need (nth (s .cells) a) p s λ c. give-cell (c .holds) (c .made) p s) (is (cellValue (m .cells) (m .counts .cells) p a) m)
   unfolding cellValue
   held-sim p a {s = s} r = end-need p (asks-nth (s .cells) a _ (r .cells)) r λ c q. cell-sim p r (r .each a c q)
 

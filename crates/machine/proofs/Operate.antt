@@ -13,7 +13,7 @@ use lib.Signed.{ltZ}
 use mir.Syntax.{w64}
 use mir.Val.{toZ, ofZ, SFits}
 use mir.Facts.{toZ-ofZ}
-use Rattle.language.specs.Answers.{ErrorStop, RANGE, ZERO}
+use Rattle.language.specs.Answers.{ErrorStop, RANGE, error}
 use Rattle.language.specs.Names.{Op, not, eq, lt, add, sub, mul, div, operator}
 use Rattle.language.specs.Numbers.{top, in-range, quotient, Computed, amount, fails, ranged, same-number, bit, as-bit, op1, op2, compute}
 use Rattle.language.specs.Numbers as Numbers
@@ -26,7 +26,7 @@ use Rattle.machine.specs.Entries.{pick, number-tag, row}
 use Rattle.machine.specs.State.{Tables, is}
 use Rattle.machine.specs.Leaves.{given, computedBy, negated, combined}
 use Rattle.machine.proofs.Lists.{Asks, asks-yes, asks-no}
-use Rattle.machine.proofs.Relation.{Stage, v-num, v-fun, v-rec, v-proc, v-proc-rec, v-adr, v-block, ValR, R, Sim, goes, stops, no-way, IsVal}
+use Rattle.machine.proofs.Relation.{Stage, v-num, v-fun, v-rec, v-proc, v-proc-rec, v-adr, v-block, ValR, R, Plain, plain-range, plain-zero, Sim, goes, stops, no-way, IsVal}
 use Rattle.machine.proofs.Agree.{grow-self, no-bit, asks-num}
 
 -- ---- numbers that words hold
@@ -34,7 +34,7 @@ use Rattle.machine.proofs.Agree.{grow-self, no-bit, asks-num}
 -- what is computed fits a word
 pub data Sized : Computed → Type 0 where
   fits : {z : ℤ} → SFits w64 z → Sized (amount z)
-  no-amount : {x : ErrorStop} → Sized (fails x)
+  no-amount : {x : ErrorStop} → Plain (error x) → Sized (fails x)
 
 below-greatest : (n : ℕ) → leb n top ≡ true → n < 9223372036854775808
 below-greatest n h = let l = leb→le n top (subst (λ (b : Bool). T b) (sym h) tt) in omega (arith, l)
@@ -49,7 +49,7 @@ in-range-fits (negsuc n) h = record { sfits = below-greatest n (first-true (leb 
 
 sized-if : (z : ℤ) (b : Bool) → in-range z ≡ b → Sized (cond b (amount z) (fails RANGE))
 sized-if z true h = fits (in-range-fits z h)
-sized-if z false h = no-amount
+sized-if z false h = no-amount plain-range
 
 sized-ranged : (z : ℤ) → Sized (ranged z)
 sized-ranged z = sized-if z (in-range z) refl
@@ -72,7 +72,7 @@ unfolding computedBy
 sized-by o a b =
     sized-pick (eqb o 4) (sized-bit (same-number a b)) (sized-pick (eqb o 5) (sized-bit (ltZ a b)) (sized-pick (eqb o 6) (sized-ranged (a +ℤ b))
     (sized-pick (eqb o 7) (sized-ranged (a -ℤ b)) (sized-pick (eqb o 8) (sized-ranged (a *ℤ b))
-    (sized-cond (same-number b (pos 0)) (no-amount {x = ZERO}) (sized-ranged (quotient a b)))))))
+    (sized-cond (same-number b (pos 0)) (no-amount plain-zero) (sized-ranged (quotient a b)))))))
 
 module _ {g : Stage} where
   pub number-val : {b : List ℕ} {c : ℕ} (z : ℤ) → SFits w64 z → ValR g b c (inZ z) number-tag (ofZ w64 z)
@@ -81,7 +81,7 @@ module _ {g : Stage} where
   pub give-sim : (c : Computed) (p : ℕ) {sp : ℕ} {s : State} {m : Tables} → Sized c → R g s m → Sim g (IsVal g) sp m (give c p s) (is (given c p) m)
   unfolding give
   give-sim (amount z) p (fits h) r = goes (number-val z h) r grow-self
-  give-sim (fails x) p no-amount r = stops r
+  give-sim (fails x) p (no-amount w) r = stops w r
 
   -- no rule fits, and the machine says so
   neither-way : {A B : Type 0} {P : B → (t x : ℕ) → Tables → Type 0} (o : Option A) (e : Ending) (p : ℕ) (k : A → Outcome B) {sp : ℕ} {s : State} {m : Tables} →

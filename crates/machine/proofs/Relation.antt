@@ -7,18 +7,19 @@ use lib.ListN.{length, getD, drop}
 use mir.Syntax.{w64}
 use mir.Val.{toZ}
 use Rattle.language.specs.Syntax.{Name, ArgP, Expr, Exprs, ExprP, Def, Stat, Cmds, Block}
-use Rattle.language.specs.Answers.{Stop, stop-number}
+use Rattle.language.specs.Answers.{Stop, limit, error, stop-number, LimitStop, RANGE, ZERO, UNSET, SIZE, INDEX}
 use Rattle.language.specs.Types.{param-names}
 use Rattle.language.specs.Limits.{Limits}
-use Rattle.language.specs.Rules.{Val, inZ, inF, inFR, inP, inPR, inA, inB, Env, empty, bound, State, stop, no-rule, Outcome, ok, halt, nth, Entered, Level, cmds}
+use Rattle.language.specs.Rules as Rules
+use Rattle.language.specs.Rules.{Val, inZ, inF, inFR, inP, inPR, inA, inB, Env, empty, bound, fresh, State, stop, no-rule, Outcome, ok, halt, nth, Entered, Level, cmds}
 use Rattle.nodes.specs.declared.Node.{Node}
 use Rattle.nodes.specs.Nodes.{nodeAt}
 use Rattle.nodes.specs.Trees.{Script, next, AtParams, AtE, AtEs, AtA, AtAs, AtCs, AtD, AtS, AtB}
-use Rattle.machine.specs.declared.Row.{Row}
+use Rattle.machine.specs.declared.Cell.{Cell}
 use Rattle.machine.specs.declared.Ending.{Ending}
 use Rattle.machine.specs.declared.Ending.the-variants.{Value, NoRule}
 use Rattle.machine.specs.declared.Ending.the-variants as E
-use Rattle.machine.specs.Entries.{number-tag, function-tag, recursive-function-tag, procedure-tag, recursive-procedure-tag, address-tag, unset-tag, block-tag, ring-rows, row, rowAt, binding, bindingAt, nodeOf, envOf, firstOf, lengthOf}
+use Rattle.machine.specs.Entries.{number-tag, function-tag, recursive-function-tag, procedure-tag, recursive-procedure-tag, address-tag, unset-tag, block-tag, ring-rows, row, rowAt, cell, cellAt, binding, bindingAt, nodeOf, envOf, firstOf, lengthOf}
 use Rattle.machine.specs.Codes.{codeOver, extended, defined, CodedE, CodedEs, CodedA, CodedAs, CodedCs, CodedD, CodedS, CodedB}
 use Rattle.machine.specs.State.{Run, Tables, Ret, is}
 use Rattle.machine.specs.Machine.{Evaluators, cmdIn}
@@ -83,6 +84,14 @@ pub data Thing : Type 0 where
 -- the first c bindings are kept
 abbrev pub Old : List ℕ → ℕ → List ℕ → Type 0
 Old b c b′ = (k : ℕ) → k < c → bindingAt b′ k ≡ bindingAt b k
+
+-- a stop that has no second place
+pub data Plain : Stop → Type 0 where
+  plain-limit : (l : LimitStop) → Plain (limit l)
+  plain-range : Plain (error RANGE)
+  plain-zero : Plain (error ZERO)
+  plain-size : Plain (error SIZE)
+  plain-index : Plain (error INDEX)
 
 module _ (g : Stage) where
   -- the node i is this tree, and the codes from there on are right where the names Γ are in force
@@ -153,9 +162,9 @@ module _ (g : Stage) where
     lost : Found b c none NoRule
 
   -- a cell
-  pub data CellR (b : List ℕ) (c : ℕ) : Option Val → Row → Type 0 where
-    c-unset : CellR b c none (row unset-tag 0)
-    c-set : {u : Val} {t x : ℕ} → ValR b c u t x → CellR b c (some u) (row t x)
+  pub data CellR (b : List ℕ) (c : ℕ) : Rules.Cell → Cell → Type 0 where
+    c-unset : {p : ℕ} → CellR b c (fresh p) (cell p unset-tag 0)
+    c-set : {p : ℕ} {u : Val} {t x : ℕ} → ValR b c u t x → CellR b c (record { made = p; holds = some u }) (cell p t x)
 
   -- values that wait from sp on in the ring w
   pub data Waits (b : List ℕ) (c : ℕ) (w : List ℕ) : ℕ → List Val → Type 0 where
@@ -175,7 +184,7 @@ module _ (g : Stage) where
     pub cells : length (s .cells) ≡ m .counts .cells
     pub cells-in : m .counts .cells ≤ g.limits .cells
     pub cells-kept : Kept (2 * g.limits .cells) (g.old .cells) (m .cells)
-    pub each : (a : ℕ) (o : Option Val) → nth (s .cells) a ≡ some o → CellR (m .bindings) (m .counts .bindings) o (rowAt (m .cells) a)
+    pub each : (a : ℕ) (o : Rules.Cell) → nth (s .cells) a ≡ some o → CellR (m .bindings) (m .counts .bindings) o (cellAt (m .cells) a)
     pub numbers : length (s .numbers) ≡ m .counts .numbers
     pub numbers-in : m .counts .numbers ≤ g.limits .output
     pub output : m .output ≡ s .numbers ++ drop (length (s .numbers)) (g.old .output)
@@ -192,7 +201,8 @@ module _ (g : Stage) where
   -- related outcomes, from m on; P relates what they answer
   pub data Sim {A : Type 0} (P : A → (t x : ℕ) → Tables → Type 0) (sp : ℕ) (m : Tables) : Outcome A → Ret → Type 0 where
     goes : {a : A} {s : State} {t x : ℕ} {m₁ : Tables} → P a t x m₁ → R s m₁ → Grow sp m m₁ → Sim P sp m (ok a s) (is (Value t x) m₁)
-    stops : {w : Stop} {p : ℕ} {s : State} {m₁ : Tables} → R s m₁ → Sim P sp m (halt (stop w) p s) (is (E.Stop (stop-number w) p) m₁)
+    stops : {w : Stop} {p : ℕ} {s : State} {m₁ : Tables} → Plain w → R s m₁ → Sim P sp m (halt (stop w) p s) (is (E.Stop (stop-number w) p) m₁)
+    unset : {p q : ℕ} {s : State} {m₁ : Tables} → R s m₁ → Sim P sp m (halt (stop (error (UNSET q))) p s) (is (E.Unset p q) m₁)
     no-way : {p : ℕ} {s : State} {m₁ : Tables} → R s m₁ → Sim P sp m (halt no-rule p s) (is NoRule m₁)
 
   -- an answer that took a unit

@@ -1,7 +1,6 @@
 -- The state's changes: what tables stand for after each, and how an entry is counted.
 use mathlib.Core.Path.{_≡_, refl, sym, _∙_, ap}
 use mathlib.Core.List.{List, [], _∷_, _++_}
-use mathlib.Core.Option.{Option, none, some}
 use Prim.Native.Nat.{ℕ, zero, suc, _+_, _*_, _≤_, _<_}
 use native.Mathlib.Nat.{le-refl}
 use native.Mathlib.Omega.{arith}
@@ -9,15 +8,16 @@ use lib.Dec.{ltb, ltb→lt, lt→ltb}
 use lib.IntN.{ℤ}
 use lib.ListN.{length, drop, replicate, length-append, length-replicate, set}
 use Rattle.language.specs.Answers.{FUEL, DEPTH, limit}
-use Rattle.language.specs.Rules.{Val, State, stop, Outcome, halt, within, take-unit, take-bindings, with-cells, put-out, enter, store}
+use Rattle.language.specs.Rules.{Val, Cell, fresh, State, stop, Outcome, halt, within, take-unit, take-bindings, with-cells, put-out, enter, store}
 use Rattle.machine.specs.declared.Binding.{Binding}
-use Rattle.machine.specs.Entries.{unset-tag, ring-rows, rowAt, putRow, putRows, putBinding}
+use Rattle.machine.specs.declared.Cell as Declared
+use Rattle.machine.specs.Entries.{unset-tag, ring-rows, putRow, cell, cellAt, putCell, putCells, putBinding}
 use Rattle.machine.specs.State.{Tables, Ret, bind, newCells, putOut, push, guard}
 use Rattle.machine.specs.State as M
-use Rattle.machine.proofs.Entries.{row-length, row-beyond, row-own, row-other, rows-length, rows-beyond, rows-before, rows-own, binding-other}
-use Rattle.machine.proofs.Lists.{Filled, early, late, nth-filled, Put, here, there, Stored, one-more, length-put, unit-is}
-use Rattle.machine.proofs.Relation.{Stage, Kept, Old, CellR, c-unset, c-set, R, Grow, Sim, stops, Spent, IsVal}
-use Rattle.machine.proofs.Agree.{kept-then, cell-keep, sim-yes, sim-no, sim-within, tighten}
+use Rattle.machine.proofs.Entries.{row-length, row-beyond, made-small, cell-length, cell-beyond, cell-other, cell-own, cells-length, cells-beyond, cells-before, cells-own, binding-other}
+use Rattle.machine.proofs.Lists.{Filled, early, late, nth-filled, Put, here, there, holding, Stored, one-more, length-put, unit-is}
+use Rattle.machine.proofs.Relation.{Stage, Kept, Old, CellR, c-unset, c-set, R, Grow, plain-limit, Sim, stops, Spent, IsVal}
+use Rattle.machine.proofs.Agree.{kept-then, cell-keep, tag-small, sim-yes, sim-no, sim-within, tighten}
 
 -- a row written among the first n entries
 pub kept-row : {n : ℕ} {a l : List ℕ} (k t x : ℕ) → Kept n a l → 2 * suc k ≤ n → Kept n a (putRow l k t x)
@@ -109,20 +109,20 @@ module _ {g : Stage} where
         out n l e q w = ap (λ (k : List ℤ). set k n z) q ∙ ap (λ (j : ℕ). set (s .numbers ++ drop (length (s .numbers)) (g.old .output)) j z) (sym e)
             ∙ one-more (s .numbers) (g.old .output) z w
 
-    pub r-cells : (n : ℕ) → n + m .counts .cells ≤ g.limits .cells → R g (with-cells (s .cells ++ replicate n none) s) (newCells n m)
-    r-cells n h =
+    pub r-cells : (n p : ℕ) → p < 65536 → n + m .counts .cells ≤ g.limits .cells → R g (with-cells (s .cells ++ replicate n (fresh p)) s) (newCells n p m)
+    r-cells n p w h =
         record {
           units = r .units;
           bindings = r .bindings;
           bindings-in = r .bindings-in;
           bindings-kept = r .bindings-kept;
-          cells = let e = length-append (s .cells) (replicate n none) in let f = length-replicate {A = Option Val} n none in omega (arith, r .cells, e, f);
+          cells = let e = length-append (s .cells) (replicate n (fresh p)) in let f = length-replicate n (fresh p) in omega (arith, r .cells, e, f);
           cells-in = h;
           cells-kept = record {
-            long = rows-length unset-tag 0 n (m .cells) (m .counts .cells) ∙ r .cells-kept .long;
-            beyond = rows-beyond unset-tag 0 n (m .cells) (m .counts .cells) (2 * g.limits .cells) (omega arith) ∙ r .cells-kept .beyond;
+            long = cells-length (cell p unset-tag 0) n (m .cells) (m .counts .cells) ∙ r .cells-kept .long;
+            beyond = cells-beyond (cell p unset-tag 0) n (m .cells) (m .counts .cells) (2 * g.limits .cells) (omega arith) ∙ r .cells-kept .beyond;
           };
-          each = λ a c q. go a c (nth-filled (s .cells) n none a c q);
+          each = λ a c q. go a c (nth-filled (s .cells) n (fresh p) a c q);
           numbers = r .numbers;
           numbers-in = r .numbers-in;
           output = r .output;
@@ -130,17 +130,17 @@ module _ {g : Stage} where
           roomy = r .roomy;
         }
       where
-        go : (a : ℕ) (c : Option Val) → Filled (s .cells) n none a c →
-            CellR g (m .bindings) (m .counts .bindings) c (rowAt (putRows n (m .cells) (m .counts .cells) unset-tag 0) a)
-        go a c (early q l) = rw (rows-before unset-tag 0 n (m .cells) (m .counts .cells) a (omega (arith, r .cells))) (r .each a c q)
+        go : (a : ℕ) (c : Cell) → Filled (s .cells) n (fresh p) a c →
+            CellR g (m .bindings) (m .counts .bindings) c (cellAt (putCells n (m .cells) (m .counts .cells) (cell p unset-tag 0)) a)
+        go a c (early q l) = rw (cells-before (cell p unset-tag 0) n (m .cells) (m .counts .cells) a (omega (arith, r .cells))) (r .each a c q)
         go a c (late l k q) =
             rw (
               ← q,
-              rows-own unset-tag 0 n (m .cells) (m .counts .cells) a (omega (arith, r .cells)) (omega (arith, r .cells)) (omega (arith, r .roomy .few-cells, h))
-                  (omega (arith, r .roomy .cells-fit, r .cells-kept .long)),
+              cells-own (cell p unset-tag 0) w (omega arith) n (m .cells) (m .counts .cells) a (omega (arith, r .cells)) (omega (arith, r .cells))
+                  (omega (arith, r .roomy .few-cells, h)) (omega (arith, r .roomy .cells-fit, r .cells-kept .long)),
             ) c-unset
 
-    pub r-store : (a t x : ℕ) (u : Val) (cs : List (Option Val)) → Stored (s .cells) a u cs → IsVal g u t x m →
+    pub r-store : (a t x : ℕ) (u : Val) (cs : List Cell) → Stored (s .cells) a u cs → IsVal g u t x m →
         R g (with-cells cs s) (M.store a t x m)
     r-store a t x u cs d w =
         record {
@@ -150,7 +150,10 @@ module _ {g : Stage} where
           bindings-kept = r .bindings-kept;
           cells = d .long ∙ r .cells;
           cells-in = r .cells-in;
-          cells-kept = kept-row _ _ _ (r .cells-kept) (omega (arith, d .within, r .cells, r .cells-in));
+          cells-kept = record {
+            long = cell-length _ (m .cells) a ∙ r .cells-kept .long;
+            beyond = cell-beyond _ (m .cells) a (2 * g.limits .cells) (omega (arith, d .within, r .cells, r .cells-in)) ∙ r .cells-kept .beyond;
+          };
           each = λ b c q. go b c (d .puts b c q);
           numbers = r .numbers;
           numbers-in = r .numbers-in;
@@ -159,15 +162,26 @@ module _ {g : Stage} where
           roomy = r .roomy;
         }
       where
-        go : (b : ℕ) (c : Option Val) → Put (s .cells) a (some u) b c → CellR g (m .bindings) (m .counts .bindings) c (rowAt (putRow (m .cells) a t x) b)
+        -- the place that made it is the rules'
+        made : cellAt (m .cells) a .made ≡ d .was .made
+        made = go (r .each a (d .was) (d .before))
+          where
+            go : {o : Cell} {c : Declared.Cell} → CellR g (m .bindings) (m .counts .bindings) o c → c .made ≡ o .made
+            go c-unset = refl
+            go (c-set v) = refl
+
+        go : (b : ℕ) (c : Cell) → Put (s .cells) a (holding (d .was) u) b c →
+            CellR g (m .bindings) (m .counts .bindings) c (cellAt (putCell (m .cells) a (cell (cellAt (m .cells) a .made) t x)) b)
         go b c (here e q) =
             rw (
               e,
               ← q,
-              row-own (m .cells) a t x (omega (arith, d .within, r .cells, r .cells-in, r .roomy .few-cells))
+              cell-own (cell (cellAt (m .cells) a .made) t x) (m .cells) a (made-small (m .cells) a) (tag-small w)
+                  (omega (arith, d .within, r .cells, r .cells-in, r .roomy .few-cells))
                   (omega (arith, d .within, r .cells, r .cells-in, r .roomy .cells-fit, r .cells-kept .long)),
+              made,
             ) (c-set w)
-        go b c (there n q) = rw (row-other (m .cells) a t x b n) (r .each b c q)
+        go b c (there n q) = rw (cell-other (cell (cellAt (m .cells) a .made) t x) (m .cells) a b n) (r .each b c q)
 
   -- ---- an entry: a unit and a level
 
@@ -188,4 +202,4 @@ module _ {g : Stage} where
         Sim g P sp m (enter g.limits p s λ s₁. halt (stop (limit DEPTH)) p s₁) (guard zero p m k)
     unfolding guard
     sim-deep p k r =
-        sim-within _ _ _ _ (unit-is _ _ _ (r .units)) r λ h. sim-no _ _ (λ f. f) (stops (r-spend r (ltb→lt 0 _ (unit-is _ _ _ (r .units) .0 h))))
+        sim-within _ _ _ _ (unit-is _ _ _ (r .units)) r λ h. sim-no _ _ (λ f. f) (stops (plain-limit DEPTH) (r-spend r (ltb→lt 0 _ (unit-is _ _ _ (r .units) .0 h))))

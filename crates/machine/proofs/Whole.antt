@@ -8,7 +8,7 @@ use lib.IntN.{ℤ}
 use lib.ListN.{length, getD, take, drop, replicate}
 use lib.Seq.{take-append-seam}
 use Rattle.language.specs.Syntax.{Block}
-use Rattle.language.specs.Answers.{FUEL, DEPTH, CELLS, BINDINGS, OUTPUT, RANGE, ZERO, UNSET, SIZE, INDEX, Stop, limit, error, stop-number, Answer, done, stopped}
+use Rattle.language.specs.Answers.{FUEL, DEPTH, CELLS, BINDINGS, OUTPUT, UNSET, Stop, error, stop-number, Answer, done, stopped}
 use Rattle.language.specs.Typing.{Typable}
 use Rattle.language.specs.Limits.{Limits, Admitted}
 use Rattle.language.specs.Rules.{empty, State, no-rule, Outcome, ok, halt, run, start}
@@ -28,14 +28,15 @@ use Rattle.machine.specs.State.{Tables, Ret}
 use Rattle.machine.specs.Machine.{blockAt}
 use Rattle.machine.specs.Shown.{fresh, program, stopBy, answerOf, shown, toldBy}
 use Rattle.machine.proofs.Codes.{codes-right}
-use Rattle.machine.proofs.Relation.{Stage, Kept, R, Sim, goes, stops, no-way, e-none, Here}
+use Rattle.machine.proofs.Relation.{Stage, Kept, R, Plain, plain-limit, plain-range, plain-zero, plain-size, plain-index, Sim, goes, stops, unset, no-way, e-none, Here}
 use Rattle.machine.proofs.Agree.{kept-self}
 use Rattle.machine.proofs.Adequate.{adequate}
 
 -- an ending that the rules know: a value, one of the ten stops, or no rule
 pub data Known : Ending → Type 0 where
   known-value : {t x : ℕ} → Known (Value t x)
-  known-stop : (w : Stop) {p : ℕ} → Known (E.Stop (stop-number w) p)
+  known-stop : {w : Stop} → Plain w → {p : ℕ} → Known (E.Stop (stop-number w) p)
+  known-unset : {p q : ℕ} → Known (E.Unset p q)
   known-none : Known E.NoRule
 
 -- r is what the machine comes to from the tables m for the block b
@@ -48,18 +49,17 @@ pub record RunsAs (L : Limits) (b : Block) (m : Tables) (r : Ret) : Type 0 where
   pub cells-kept : Kept (2 * L .cells) (m .cells) (r .after .cells)
   pub waiting-kept : Kept (2 * ring-rows) (m .waiting) (r .after .waiting)
 
-pub stop-back : (w : Stop) → stopBy (stop-number w) ≡ w
+pub stop-back : {w : Stop} → Plain w → stopBy (stop-number w) ≡ w
 unfolding pick
-stop-back (limit FUEL) = refl
-stop-back (limit DEPTH) = refl
-stop-back (limit CELLS) = refl
-stop-back (limit BINDINGS) = refl
-stop-back (limit OUTPUT) = refl
-stop-back (error RANGE) = refl
-stop-back (error ZERO) = refl
-stop-back (error UNSET) = refl
-stop-back (error SIZE) = refl
-stop-back (error INDEX) = refl
+stop-back (plain-limit FUEL) = refl
+stop-back (plain-limit DEPTH) = refl
+stop-back (plain-limit CELLS) = refl
+stop-back (plain-limit BINDINGS) = refl
+stop-back (plain-limit OUTPUT) = refl
+stop-back plain-range = refl
+stop-back plain-zero = refl
+stop-back plain-size = refl
+stop-back plain-index = refl
 
 known-number : {n p : ℕ} → Known (E.Stop n p) → stop-number (stopBy n) ≡ n
 known-number (known-stop w) = ap stop-number (stop-back w)
@@ -111,8 +111,9 @@ record Agrees (g : Stage) (o : Outcome (Unit {0})) (t : Ret) : Type 0 where
 
 agrees : {g : Stage} {P : Unit {0} → (t x : ℕ) → Tables → Type 0} {sp : ℕ} {m : Tables} {o : Outcome (Unit {0})} {t : Ret} → Sim g P sp m o t → Agrees g o t
 agrees (goes p r h) = record { reports = same-report _ _ refl r; known = known-value; state = r }
-agrees (stops {w = w} {p = p} r) =
+agrees (stops {p = p} w r) =
     record { reports = same-report _ _ (ap (λ (v : Stop). some (stopped v p)) (sym (stop-back w))) r; known = known-stop w; state = r }
+agrees (unset r) = record { reports = same-report _ _ refl r; known = known-unset; state = r }
 agrees (no-way r) = record { reports = same-report _ _ refl r; known = known-none; state = r }
 
 -- ---- the theorem
@@ -183,6 +184,7 @@ none-is (halt no-rule p s) h = tt
 an-answer : (e : Ending) → (e ≡ E.NoRule → ⊥) → (a : Answer) × (answerOf e ≡ some a)
 an-answer (Value t x) h = (done, refl)
 an-answer (E.Stop n p) h = (stopped (stopBy n) p, refl)
+an-answer (E.Unset p q) h = (stopped (error (UNSET q)) p, refl)
 an-answer E.NoRule h = absurd (h refl)
 
 module _ {L : Limits} {b : Block} {m : Tables} {r : Ret} (h : RunsAs L b m r) where

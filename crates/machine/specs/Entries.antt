@@ -5,6 +5,7 @@ use mathlib.Core.List.{List}
 use lib.Dec.{ltb}
 use lib.ListN.{getD, set}
 use Rattle.machine.specs.declared.Row.{Row}
+use Rattle.machine.specs.declared.Cell.{Cell}
 use Rattle.machine.specs.declared.Binding.{Binding}
 
 -- a test, whose two sides wait
@@ -76,10 +77,27 @@ rowAt l k = pick (ltb k most-rows) (λ _. row (getD l (2 * k) 0) (getD l (2 * k 
 unfoldable pub putRow : List ℕ → ℕ → (tag word : ℕ) → List ℕ
 putRow l k t x = pick (ltb k most-rows) (λ _. set (set l (2 * k) t) (2 * k + 1) x) λ _. l
 
--- the same row n times, from the row k on
-unfoldable pub putRows : (n : ℕ) → List ℕ → ℕ → (tag word : ℕ) → List ℕ
-putRows zero l k t x = l
-putRows (suc n) l k t x = putRows n (putRow l k t x) (suc k) t x
+abbrev pub cell : (made tag word : ℕ) → Cell
+cell p t x = record { made = p; tag = t; word = x }
+
+-- a cell's first word: the place that made it and its tag, 16 bits each
+abbrev pub cellHead : (made tag : ℕ) → ℕ
+cellHead p t = p % 65536 * 65536 + t % 65536
+
+abbrev pub cellOf : Row → Cell
+cellOf r = cell (r .tag / 65536 % 65536) (r .tag % 65536) (r .word)
+
+-- the cell k of a table
+unfoldable pub cellAt : List ℕ → ℕ → Cell
+cellAt l k = cellOf (rowAt l k)
+
+unfoldable pub putCell : List ℕ → ℕ → Cell → List ℕ
+putCell l k c = putRow l k (cellHead (c .made) (c .tag)) (c .word)
+
+-- the same cell n times, from the cell k on
+unfoldable pub putCells : (n : ℕ) → List ℕ → ℕ → Cell → List ℕ
+putCells zero l k c = l
+putCells (suc n) l k c = putCells n (putCell l k c) (suc k) c
 
 abbrev pub binding : (code tag word link jump : ℕ) → Binding
 binding c t x l j = record { code = c; tag = t; word = x; link = l; jump = j }

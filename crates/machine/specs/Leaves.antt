@@ -13,8 +13,8 @@ use Rattle.nodes.specs.Nodes.{nodeAt}
 use Rattle.machine.specs.declared.Row.{Row}
 use Rattle.machine.specs.declared.Binding.{Binding}
 use Rattle.machine.specs.declared.Ending.{Ending}
-use Rattle.machine.specs.declared.Ending.the-variants.{Value, Stop, NoRule}
-use Rattle.machine.specs.Entries.{pick, number-tag, function-tag, recursive-function-tag, procedure-tag, recursive-procedure-tag, address-tag, unset-tag, done-tag, block-tag, first-free, first-below, most-steps, rowAfter, rowAt, binding, bindingAt, putBinding, nodeOf, envOf, blockWord, firstOf, lengthOf}
+use Rattle.machine.specs.declared.Ending.the-variants.{Value, Stop, Unset, NoRule}
+use Rattle.machine.specs.Entries.{pick, number-tag, function-tag, recursive-function-tag, procedure-tag, recursive-procedure-tag, address-tag, unset-tag, done-tag, block-tag, first-free, first-below, most-steps, rowAfter, rowAt, cellAt, binding, bindingAt, putBinding, nodeOf, envOf, blockWord, firstOf, lengthOf}
 use Rattle.machine.specs.State.{Run, Tables, Ret, is, andThen, ifValue, bind, newCells, store}
 
 -- ---- names
@@ -58,7 +58,7 @@ addressOf b c env = ifValue (boundTo b c env) λ t a. pick (eqb t address-tag) (
 -- what the cell a holds, of the first n cells, for the node at p
 unfoldable pub cellValue : (cells : List ℕ) (n p a : ℕ) → Ending
 cellValue c n p a =
-    pick (ltb a n) (λ _. pick (eqb (rowAt c a .tag) unset-tag) (λ _. Stop 27 p) λ _. Value (rowAt c a .tag) (rowAt c a .word)) λ _. NoRule
+    pick (ltb a n) (λ _. pick (eqb (cellAt c a .tag) unset-tag) (λ _. Unset p (cellAt c a .made)) λ _. Value (cellAt c a .tag) (cellAt c a .word)) λ _. NoRule
 
 -- what a name stands for that is bound to a value: an address is read through
 unfoldable pub readThrough : (cells : List ℕ) (n p tag word : ℕ) → Ending
@@ -199,7 +199,7 @@ module _ (g : Run) where
   -- the VAR at p: a cell, then a binding
   unfoldable pub defineCell : (p env : ℕ) → Tables → Ret
   defineCell p env m =
-      pick (ltb (m .counts .cells) (g.bounds .cells)) (λ _. define p address-tag (m .counts .cells) env (newCells 1 m)) λ _. is (Stop 22 p) m
+      pick (ltb (m .counts .cells) (g.bounds .cells)) (λ _. define p address-tag (m .counts .cells) env (newCells 1 p m)) λ _. is (Stop 22 p) m
 
   -- the alloc at p makes as many cells as the value r says, all or none
   unfoldable pub allocate : (p : ℕ) → (r : Row) → Tables → Ret
@@ -207,7 +207,7 @@ module _ (g : Run) where
       pick (eqb (r .tag) number-tag) (λ _.
       pick (ltb (r .word) first-below) (λ _.
       pick (leb (r .word + m .counts .cells) (g.bounds .cells))
-      (λ _. is (Value block-tag (blockWord (m .counts .cells) (r .word))) (newCells (r .word) m))
+      (λ _. is (Value block-tag (blockWord (m .counts .cells) (r .word))) (newCells (r .word) p m))
       λ _. is (Stop 22 p) m)
       λ _. is (Stop 28 p) m)
       λ _. is NoRule m

@@ -12,7 +12,7 @@ use Rattle.language.specs.Promises.{Told}
 use Rattle.nodes.specs.Nodes.{nodeAt}
 use Rattle.machine.specs.declared.Bounds.{Bounds}
 use Rattle.machine.specs.declared.Ending.{Ending}
-use Rattle.machine.specs.declared.Ending.the-variants.{Value, NoRule}
+use Rattle.machine.specs.declared.Ending.the-variants.{Value, Unset, NoRule}
 use Rattle.machine.specs.declared.Ending.the-variants as E
 use Rattle.machine.specs.Entries.{pick}
 use Rattle.machine.specs.State.{running, Tables, tables, Ret}
@@ -29,7 +29,7 @@ fresh f b c o w = tables (record { units = f; bindings = 0; cells = 0; numbers =
 unfoldable pub program : (tree codes : List ℕ) → Limits → Tables → Ret
 program t c L m = blockAt (running t c (boundsOf L)) (L .depth) 0 0 (nodeAt t 0 .child) m
 
--- a stop by its number
+-- a stop by its number, for the nine that have no second place
 abbrev pub stopBy : ℕ → Stop
 stopBy n =
     pick (eqb n 20) (λ _. limit FUEL) λ _.
@@ -39,13 +39,13 @@ stopBy n =
     pick (eqb n 24) (λ _. limit OUTPUT) λ _.
     pick (eqb n 25) (λ _. error RANGE) λ _.
     pick (eqb n 26) (λ _. error ZERO) λ _.
-    pick (eqb n 27) (λ _. error UNSET) λ _.
     pick (eqb n 28) (λ _. error SIZE) λ _.
     error INDEX
 
 abbrev pub answerOf : Ending → Option Answer
 answerOf (Value t x) = some done
 answerOf (E.Stop n p) = some (stopped (stopBy n) p)
+answerOf (Unset p q) = some (stopped (error (UNSET q)) p)
 answerOf NoRule = none
 
 -- with so much fuel at the start

@@ -8,8 +8,8 @@ use Rattle.machine.specs.declared.Counts.{Counts}
 use Rattle.machine.specs.declared.Bounds.{Bounds}
 use Rattle.machine.specs.declared.Evaluated.{Evaluated}
 use Rattle.machine.specs.declared.Ending.{Ending}
-use Rattle.machine.specs.declared.Ending.the-variants.{Value, Stop, NoRule}
-use Rattle.machine.specs.Entries.{pick, unset-tag, putRow, putRows}
+use Rattle.machine.specs.declared.Ending.the-variants.{Value, Stop, Unset, NoRule}
+use Rattle.machine.specs.Entries.{pick, unset-tag, putRow, cell, cellAt, putCell, putCells}
 
 -- what a run does not change: the tree words, the nodes' codes, and how many bindings, cells and numbers there may be
 pub record Run : Type 0 where
@@ -50,11 +50,13 @@ is e m = record { ending = e; after = m }
 abbrev pub valued : Ending → ℕ
 valued (Value t x) = 1
 valued (Stop n p) = 0
+valued (Unset p q) = 0
 valued NoRule = 0
 
 abbrev pub onValue : Ending → Tables → (ℕ → ℕ → Tables → Ret) → Ret
 onValue (Value t x) m k = k t x m
 onValue (Stop n p) m k = is (Stop n p) m
+onValue (Unset p q) m k = is (Unset p q) m
 onValue NoRule m k = is NoRule m
 
 -- r, and where it is a value what follows
@@ -65,6 +67,7 @@ andThen r k = onValue (r .ending) (r .after) k
 abbrev pub ifValue : Ending → (ℕ → ℕ → Ending) → Ending
 ifValue (Value t x) k = k t x
 ifValue (Stop n p) k = Stop n p
+ifValue (Unset p q) k = Unset p q
 ifValue NoRule k = NoRule
 
 -- ---- the state's changes
@@ -90,19 +93,27 @@ bind n b m =
       waiting = m .waiting;
     }
 
--- n cells more, which are not set
-abbrev pub newCells : ℕ → Tables → Tables
-newCells n m =
+-- n cells more, which are not set, made at the place p
+abbrev pub newCells : (n p : ℕ) → Tables → Tables
+newCells n p m =
     record {
       counts = record { units = m .counts .units; bindings = m .counts .bindings; cells = n + m .counts .cells; numbers = m .counts .numbers };
       bindings = m .bindings;
-      cells = putRows n (m .cells) (m .counts .cells) unset-tag 0;
+      cells = putCells n (m .cells) (m .counts .cells) (cell p unset-tag 0);
       output = m .output;
       waiting = m .waiting;
     }
 
-abbrev pub store : (cell tag word : ℕ) → Tables → Tables
-store a t x m = record { counts = m .counts; bindings = m .bindings; cells = putRow (m .cells) a t x; output = m .output; waiting = m .waiting }
+-- a value into the cell a, which keeps the place that made it
+abbrev pub store : (a tag word : ℕ) → Tables → Tables
+store a t x m =
+    record {
+      counts = m .counts;
+      bindings = m .bindings;
+      cells = putCell (m .cells) a (cell (cellAt (m .cells) a .made) t x);
+      output = m .output;
+      waiting = m .waiting;
+    }
 
 -- one number more goes out
 abbrev pub putOut : ℤ → Tables → Tables
