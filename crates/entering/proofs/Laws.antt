@@ -2,7 +2,6 @@
 use mathlib.Core.Path.{_≡_, refl, sym, ap, _∙_}
 use mathlib.Core.Bool.{Bool, true, false, not}
 use mathlib.Core.List.{List}
-use mathlib.Core.Logic.{_⊎_}
 use Prim.Native.Nat.{ℕ, suc, _+_, _-_, _≤_, _<_}
 use native.Mathlib.Numerals.{add-one}
 use native.Mathlib.Omega.{arith}
@@ -12,16 +11,17 @@ use borrow.Author.Tests.{eq-eqb, ne-eqb, leb-true, leb-false, le-leb, lt-leb, lt
 use Rattle.nodes.specs.declared.Node.{Node}
 use Rattle.nodes.specs.Nodes.{nodeAt}
 use Rattle.machine.specs.declared.Row.{Row}
+use Rattle.machine.specs.declared.Cell.{Cell}
 use Rattle.machine.specs.declared.Counts.{Counts}
 use Rattle.machine.specs.declared.Ending.{Ending}
-use Rattle.machine.specs.declared.Ending.the-variants.{Value, Stop, NoRule}
-use Rattle.machine.specs.Entries.{pick, rowAfter, rowAt, putRow, putRows, putBinding, closureWord, nodeOf, envOf}
+use Rattle.machine.specs.declared.Ending.the-variants.{Value, Stop, Unset, NoRule}
+use Rattle.machine.specs.Entries.{pick, rowAfter, rowAt, putCell, putCells, putBinding, closureWord, nodeOf, envOf}
 use Rattle.machine.specs.State.{Run, Tables, tables, is, andThen, spend}
 use Rattle.machine.specs.Leaves.{bindingBehind, isParam, bodyAfter, bindAll, enter, enterAgain, openFunction, openProcedure, define, defineCell, allocate}
 use Rattle.machine.proofs.Ending.{the-type}
 use Rattle.machine.proofs.Members.{no-unit, no-level, goes-in}
-use Rattle.stores.proofs.Laws.{not-value}
-use Rattle.entering.specs.Opening.{guarded, opened, withBindings, withCells, definitionBy, definition, opens}
+use Rattle.stores.proofs.Laws.{NoValue, not-value}
+use Rattle.entering.specs.Opening.{guarded, opened, withBindings, withCells, freshCell, definitionBy, definition, opens}
 
 -- ---- entries
 
@@ -47,6 +47,7 @@ same-word t x u y h = ap word-of h
     word-of : Ending → ℕ
     word-of (Value t x) = x
     word-of (Stop n p) = 0
+    word-of (Unset p q) = 0
     word-of NoRule = 0
 
 -- ---- room
@@ -110,7 +111,7 @@ module _ (tree w : List ℕ) (left at from next within : ℕ) (b : List ℕ) whe
 
 module _ (g : Run) (p n sp q : ℕ) (m : Tables) (e : Ending) (e-is : e ≡ bodyAfter g.tree n q) where
   module _ (env : ℕ) where
-    pub enter-not : (tagOf the-type e ≡ 1) ⊎ (tagOf the-type e ≡ 2) → is e m ≡ enter g p n sp q env m
+    pub enter-not : NoValue e → is e m ≡ enter g p n sp q env m
     unfolding enter andThen
     enter-not h = rw (← e-is) (not-value e h m _)
 
@@ -126,7 +127,7 @@ module _ (g : Run) (p n sp q : ℕ) (m : Tables) (e : Ending) (e-is : e ≡ body
       enter-some h within b k o-is k-is = rw (← e-is, found, ← r-is, h, ← o-is, k-is)
 
   module _ (tag word : ℕ) where
-    pub named-not : (tagOf the-type e ≡ 1) ⊎ (tagOf the-type e ≡ 2) → is e m ≡ enterAgain g p n sp q tag word m
+    pub named-not : NoValue e → is e m ≡ enterAgain g p n sp q tag word m
     unfolding enterAgain andThen
     named-not h = rw (← e-is) (not-value e h m _)
 
@@ -195,10 +196,10 @@ module _ (g : Run) (p env : ℕ) (m : Tables) where
     unfolding define pick
     define-full h = rw (le-ltb _ _ h)
 
-  pub cell-some : m .counts .cells < g.bounds .cells → (c : List ℕ) (k : Counts) → c ≡ putRow (m .cells) (m .counts .cells) 6 0 →
+  pub cell-some : m .counts .cells < g.bounds .cells → (c : List ℕ) (new : Cell) (k : Counts) → new ≡ freshCell p → c ≡ putCell (m .cells) (m .counts .cells) new →
       k ≡ withCells 1 (m .counts) → define g p 5 (m .counts .cells) env (tables k (m .bindings) c (m .output) (m .waiting)) ≡ defineCell g p env m
-  unfolding defineCell putRows pick
-  cell-some h c k c-is k-is = rw (lt-ltb _ _ h, c-is, k-is)
+  unfolding defineCell putCells pick
+  cell-some h c new k new-is c-is k-is = rw (lt-ltb _ _ h, c-is, new-is, k-is)
 
   pub cell-full : g.bounds .cells ≤ m .counts .cells → is (Stop 22 p) m ≡ defineCell g p env m
   unfolding defineCell pick
@@ -219,11 +220,11 @@ module _ (g : Run) (p : ℕ) (size : Row) (m : Tables) where
       unfolding allocate pick
       allocate-full h = rw (eq-eqb _ 0 number, lt-ltb _ _ counts, ← r-is, h)
 
-      pub allocate-some : r ≡ true → (c : List ℕ) (word : ℕ) (k : Counts) → c ≡ putRows (size .word) (m .cells) (m .counts .cells) 6 0 →
+      pub allocate-some : r ≡ true → (c : List ℕ) (new : Cell) (word : ℕ) (k : Counts) → new ≡ freshCell p → c ≡ putCells (size .word) (m .cells) (m .counts .cells) new →
           word ≡ closureWord (m .counts .cells) (size .word) → k ≡ withCells (size .word) (m .counts) →
           is (Value 9 word) (tables k (m .bindings) c (m .output) (m .waiting)) ≡ allocate g p size m
       unfolding allocate pick
-      allocate-some h c word k c-is word-is k-is = rw (eq-eqb _ 0 number, lt-ltb _ _ counts, ← r-is, h, c-is, word-is, k-is)
+      allocate-some h c new word k new-is c-is word-is k-is = rw (eq-eqb _ 0 number, lt-ltb _ _ counts, ← r-is, h, c-is, new-is, word-is, k-is)
 
 module _ (g : Run) (env : ℕ) (n : Node) (m : Tables) where
   pub definition-kind : (k : ℕ) → n .kind ≡ k → definitionBy g k env n m ≡ definition g env n m

@@ -1,12 +1,13 @@
 -- What entries, calls and definitions answer, in the evaluator's terms.
 use Prim.Native.Nat.{ℕ, _+_, _-_}
 use mathlib.Core.List.{List}
+use Rattle.machine.specs.declared.Cell.{Cell}
 use Rattle.machine.specs.declared.Counts.{Counts}
 use lib.Dec.{eqb}
 use Rattle.nodes.specs.declared.Node.{Node}
 use Rattle.nodes.specs.Nodes.{nodeAt}
 use Rattle.machine.specs.declared.Ending.the-variants.{Value, NoRule}
-use Rattle.machine.specs.Entries.{pick, function-tag, recursive-function-tag, procedure-tag, recursive-procedure-tag, done-tag, closureWord}
+use Rattle.machine.specs.Entries.{pick, function-tag, recursive-function-tag, procedure-tag, recursive-procedure-tag, unset-tag, done-tag, cell, closureWord}
 use Rattle.machine.specs.State.{Run, Tables, Ret, is, guard}
 use Rattle.machine.specs.Leaves.{Opened, openFunction, openProcedure, define, defineCell}
 
@@ -23,6 +24,10 @@ withBindings n c = record { units = c .units; bindings = n + c .bindings; cells 
 
 abbrev pub withCells : ℕ → Counts → Counts
 withCells n c = record { units = c .units; bindings = c .bindings; cells = n + c .cells; numbers = c .numbers }
+
+-- a cell made at the place p, which is not set
+abbrev pub freshCell : (p : ℕ) → Cell
+freshCell p = cell p unset-tag 0
 
 -- a definition that evaluates nothing, by the kind k of the node n
 module _ (g : Run) where

@@ -9,12 +9,13 @@ use Rattle.machine.specs.Entries.{row}
 use Rattle.machine.specs.State.{Run, Tables, Ret, is}
 use Rattle.machine.specs.Leaves.{allocate, elementValue, lengthValue, setElement}
 use Rattle.machine.specs.Machine.{allocE, nthE, lenE, vsetE, exprAt, level, allocAt, nthAt, lenAt, vsetAt}
-use Rattle.running.proofs.Laws.{NotValue, passes, goes}
+use Rattle.stores.proofs.Laws.{NoValue}
+use Rattle.running.proofs.Laws.{passes, goes}
 
 module _ (g : Run) (d env sp : ℕ) (m : Tables) (n : Node) where
   -- alloc: behind its type its size is evaluated
   module _ (i : ℕ) (i-is : i ≡ nodeAt g.tree (n .child) .next) (r : Ret) (r-is : r ≡ exprAt g d env sp i m) where
-    pub alloc-passes : NotValue (r .ending) → r ≡ allocAt g d env sp n m
+    pub alloc-passes : NoValue (r .ending) → r ≡ allocAt g d env sp n m
     unfolding allocE
     alloc-passes h = rw (← i-is, ← r-is) (passes r h _)
 
@@ -24,7 +25,7 @@ module _ (g : Run) (d env sp : ℕ) (m : Tables) (n : Node) where
 
   -- the others: the block is evaluated
   module _ (r : Ret) (r-is : r ≡ exprAt g d env sp (n .child) m) where
-    module _ (h : NotValue (r .ending)) where
+    module _ (h : NoValue (r .ending)) where
       pub nth-passes : r ≡ nthAt g d env sp n m
       unfolding nthE
       nth-passes = rw (← r-is) (passes r h _)
@@ -44,7 +45,7 @@ module _ (g : Run) (d env sp : ℕ) (m : Tables) (n : Node) where
 
       -- and the index
       module _ (second : ℕ) (second-is : second ≡ nodeAt g.tree (n .child) .next) (q : Ret) (q-is : q ≡ exprAt g d env sp second (r .after)) where
-        module _ (h : NotValue (q .ending)) where
+        module _ (h : NoValue (q .ending)) where
           pub nth-passes-2 : q ≡ nthAt g d env sp n m
           unfolding nthE
           nth-passes-2 = rw (← r-is, goes r t x found _, ← second-is, ← q-is) (passes q h _)
@@ -61,7 +62,7 @@ module _ (g : Run) (d env sp : ℕ) (m : Tables) (n : Node) where
 
           -- and the value
           module _ (third : ℕ) (third-is : third ≡ nodeAt g.tree second .next) (s : Ret) (s-is : s ≡ exprAt g d env sp third (q .after)) where
-            pub vset-passes-3 : NotValue (s .ending) → s ≡ vsetAt g d env sp n m
+            pub vset-passes-3 : NoValue (s .ending) → s ≡ vsetAt g d env sp n m
             unfolding vsetE
             vset-passes-3 h = rw (← r-is, goes r t x found _, ← second-is, ← q-is, goes q u y met _, ← third-is, ← s-is) (passes s h _)
 

@@ -20,10 +20,10 @@ use Rattle.machine.proofs.Ending.{the-type}
 use Rattle.machine.proofs.Members.{cmd-is, cmd-while}
 use Rattle.machine.proofs.Members.{cmds-go, rounds-go, block-is, while-is}
 use Rattle.entering.specs.Opening.{guarded, definitionBy, definition, opens}
-use Rattle.stores.proofs.Laws.{not-value}
+use Rattle.stores.proofs.Laws.{NoValue, not-value}
 use Rattle.stores.specs.Choices.{isBit, branchOf, roundEnd, echoed}
 use Rattle.running.specs.Parts.{innerC, applyV, applyAt, innerAt, limitsOf}
-use Rattle.running.proofs.Laws.{NotValue, passes, goes, any-value, guard-stops, guard-goes, guard-level, on-one, on-branch, no-round}
+use Rattle.running.proofs.Laws.{passes, goes, any-value, guard-stops, guard-goes, guard-level, on-one, on-branch, no-round}
 
 -- ---- a command is entered
 
@@ -32,7 +32,7 @@ module _ (g : Run) (d env sp : ℕ) (m : Tables) (n : Node) where
   cmd-rounds h q q-is = q-is ∙ sym (cmd-while g d env sp m n h)
 
   module _ (once : n .kind ≡ 11 → ⊥) (r : Ret) (r-is : r ≡ guarded d (n .place) m) where
-    pub cmd-stops : NotValue (r .ending) → r ≡ cmdAt g d env sp n m
+    pub cmd-stops : NoValue (r .ending) → r ≡ cmdAt g d env sp n m
     cmd-stops h = guard-stops d (n .place) m r r-is h _ ∙ sym (cmd-is g d env sp m n once)
 
     module _ (t x : ℕ) (found : r .ending ≡ Value t x) where
@@ -79,7 +79,7 @@ module _ (g : Run) (d env sp : ℕ) (m : Tables) (n : Node) where
   -- CONST
   module _ (x : Node) (x-is : x ≡ nodeAt g.tree (n .child)) where
     module _ (i : ℕ) (i-is : i ≡ nodeAt g.tree (x .next) .next) (r : Ret) (r-is : r ≡ exprAt g d env sp i m) where
-      pub const-passes : NotValue (r .ending) → r ≡ constAt g d env sp n m
+      pub const-passes : NoValue (r .ending) → r ≡ constAt g d env sp n m
       unfolding constC
       const-passes h = rw (← x-is, ← i-is, ← r-is) (passes r h _)
 
@@ -89,12 +89,12 @@ module _ (g : Run) (d env sp : ℕ) (m : Tables) (n : Node) where
 
     -- SET
     module _ (c : ℕ) (c-is : c ≡ codeAt g (n .child)) (e : Ending) (e-is : e ≡ addressOf (m .bindings) c env) where
-      pub set-none : NotValue e → is e m ≡ setAt g d env sp n m
+      pub set-none : NoValue e → is e m ≡ setAt g d env sp n m
       unfolding setC
       set-none h = rw (← c-is, ← e-is) (passes (is e m) h _)
 
       module _ (k a : ℕ) (target : e ≡ Value k a) (r : Ret) (r-is : r ≡ exprAt g d env sp (x .next) m) where
-        pub set-passes : NotValue (r .ending) → r ≡ setAt g d env sp n m
+        pub set-passes : NoValue (r .ending) → r ≡ setAt g d env sp n m
         unfolding setC
         set-passes h = rw (← x-is, ← c-is, ← e-is, goes (is e m) k a target _, ← r-is) (passes r h _)
 
@@ -104,7 +104,7 @@ module _ (g : Run) (d env sp : ℕ) (m : Tables) (n : Node) where
 
   -- CALL
   module _ (c : ℕ) (c-is : c ≡ codeAt g (n .child)) (e : Ending) (e-is : e ≡ boundTo (m .bindings) c env) where
-    pub call-none : NotValue e → is e m ≡ callStatAt g d env sp n m
+    pub call-none : NoValue e → is e m ≡ callStatAt g d env sp n m
     unfolding callC
     call-none h = rw (← c-is, ← e-is) (passes (is e m) h _)
 
@@ -114,11 +114,11 @@ module _ (g : Run) (d env sp : ℕ) (m : Tables) (n : Node) where
 
   -- ECHO and IF
   module _ (r : Ret) (r-is : r ≡ exprAt g d env sp (n .child) m) where
-    pub echo-passes : NotValue (r .ending) → r ≡ echoAt g d env sp n m
+    pub echo-passes : NoValue (r .ending) → r ≡ echoAt g d env sp n m
     unfolding echoC
     echo-passes h = rw (← r-is) (passes r h _)
 
-    pub if-stat-passes : NotValue (r .ending) → r ≡ ifStatAt g d env sp n m
+    pub if-stat-passes : NoValue (r .ending) → r ≡ ifStatAt g d env sp n m
     unfolding ifC
     if-stat-passes h = rw (← r-is) (passes r h _)
 
@@ -137,13 +137,13 @@ module _ (g : Run) (d env sp : ℕ) (m : Tables) (n : Node) where
         pub if-stat-goes : (k j : ℕ) → e ≡ Value k j → (q : Ret) → q ≡ innerAt g 7 d env sp env j (r .after) → q ≡ ifStatAt g d env sp n m
         if-stat-goes k j h q q-is = q-is ∙ sym (if-stat-chooses ∙ rw h)
 
-        pub if-stat-none : NotValue e → is e (r .after) ≡ ifStatAt g d env sp n m
+        pub if-stat-none : NoValue e → is e (r .after) ≡ ifStatAt g d env sp n m
         if-stat-none h = not-value e h (r .after) _ ∙ sym if-stat-chooses
 
   -- ---- a round of WHILE
 
   module _ (e : Ret) (e-is : e ≡ guarded d (n .place) m) where
-    pub round-stops : NotValue (e .ending) → e ≡ roundAt g d env sp n m
+    pub round-stops : NoValue (e .ending) → e ≡ roundAt g d env sp n m
     unfolding roundAt round
     round-stops h = guard-stops d (n .place) m e e-is h _
 
@@ -162,7 +162,7 @@ module _ (g : Run) (d env sp : ℕ) (m : Tables) (n : Node) where
           ap (λ (S : Evaluators). round g d S env sp n m) (guard-level d (n .place) m e e-is u y entered g) ∙
           guard-goes d (n .place) m e e-is u y entered _ ∙ ap turn (sym r-is)
 
-      pub round-passes : NotValue (r .ending) → r ≡ roundAt g d env sp n m
+      pub round-passes : NoValue (r .ending) → r ≡ roundAt g d env sp n m
       unfolding turn
       round-passes h = passes r h _ ∙ sym round-turns
 
@@ -181,7 +181,7 @@ module _ (g : Run) (d env sp : ℕ) (m : Tables) (tag ρ i first : ℕ)
     (first-is : first ≡ nodeAt g.tree i .child)
     (r : Ret)
     (r-is : r ≡ blockAt g d ρ sp first m) where
-  pub inner-passes : NotValue (r .ending) → r ≡ innerAt g tag d env sp ρ i m
+  pub inner-passes : NoValue (r .ending) → r ≡ innerAt g tag d env sp ρ i m
   unfolding innerC
   inner-passes h = rw (← first-is, ← r-is) (passes r h _)
 
@@ -203,7 +203,7 @@ module _ (g : Run) (d env sp : ℕ) (k u i : ℕ) (m : Tables) (more : u < k) wh
   block-ends h = sym (rw (cmds-are, eq-eqb i 0 h))
 
   module _ (some : i ≡ 0 → ⊥) (n : Node) (n-is : n ≡ nodeAt g.tree i) (r : Ret) (r-is : r ≡ cmdAt g d env sp n m) where
-    pub block-passes : NotValue (r .ending) → r ≡ cmds g k d (below g d) env sp i m
+    pub block-passes : NoValue (r .ending) → r ≡ cmds g k d (below g d) env sp i m
     unfolding cmds cmdAt pick
     block-passes h = rw (cmds-are, ne-eqb i 0 some, ← n-is, ← r-is) (passes r h _)
 
@@ -221,7 +221,7 @@ module _ (g : Run) (d env sp : ℕ) (n : Node) (k u : ℕ) (m : Tables) (more : 
   rounds-are : rounds g k d (below g d) env sp n m ≡ rounds g (suc (k - 1)) d (below g d) env sp n m
   rounds-are = rounds-go g u k more d (below g d) env sp n m
 
-  pub rounds-pass : NotValue (r .ending) → r ≡ rounds g k d (below g d) env sp n m
+  pub rounds-pass : NoValue (r .ending) → r ≡ rounds g k d (below g d) env sp n m
   unfolding rounds roundAt
   rounds-pass h = rw (rounds-are, ← r-is) (passes r h _)
 

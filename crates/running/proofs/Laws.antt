@@ -10,24 +10,28 @@ use lib.Dec.{T, eqb, ltb, ltb→lt}
 use borrow.Author.Tests.{eqb-true}
 use Rattle.nodes.specs.Nodes.{nodeAt}
 use Rattle.machine.specs.declared.Ending.{Ending}
-use Rattle.machine.specs.declared.Ending.the-variants.{Value, Stop, NoRule}
+use Rattle.machine.specs.declared.Ending.the-variants.{Value, Stop, Unset, NoRule}
 use Rattle.machine.specs.Entries.{pick}
 use Rattle.machine.specs.State.{Run, Tables, Ret, is, valued, onValue, andThen, spend, guard}
 use Rattle.machine.specs.Machine.{onBit, below, level}
 use Rattle.machine.proofs.Ending.{the-type}
 use Rattle.machine.proofs.Members.{below-level}
 use Rattle.entering.specs.Opening.{guarded}
-use Rattle.stores.proofs.Laws.{not-value}
+use Rattle.stores.proofs.Laws.{NoValue, not-value}
 use Rattle.entering.proofs.Laws.{stop-no-value, same-word}
 use Rattle.stores.specs.Choices.{isBit, bitAnswer, branchOf, roundEnd}
 
 -- ---- answers
 
-abbrev pub NotValue : Ending → Type 0
-NotValue e = (tagOf the-type e ≡ 1) ⊎ (tagOf the-type e ≡ 2)
+-- what is no value has not the tag of one
+no-value : (e : Ending) → NoValue e → tagOf the-type e ≡ 0 → ⊥
+no-value e h z =
+    ⊎-elim (λ (t : tagOf the-type e ≡ 1). omega (arith, z, t))
+    (⊎-elim (λ (t : tagOf the-type e ≡ 2). omega (arith, z, t)) λ (t : tagOf the-type e ≡ 3). omega (arith, z, t))
+    h
 
 -- an answer that is no value is passed on
-pub passes : (r : Ret) → NotValue (r .ending) → (k : ℕ → ℕ → Tables → Ret) → r ≡ andThen r k
+pub passes : (r : Ret) → NoValue (r .ending) → (k : ℕ → ℕ → Tables → Ret) → r ≡ andThen r k
 unfolding andThen
 passes r h k = not-value (r .ending) h (r .after) k
 
@@ -44,6 +48,7 @@ any-value r h k = by (r .ending) h
     by : (e : Ending) → tagOf the-type e ≡ 0 → onValue e (r .after) (λ _ _ m. k m) ≡ k (r .after)
     by (Value t x) h = refl
     by (Stop n p) h = absurd (omega arith)
+    by (Unset p q) h = absurd (omega arith)
     by NoRule h = absurd (omega arith)
 
 -- two things that may follow and do the same
@@ -54,6 +59,7 @@ follow r k l h = by (r .ending)
     by : (e : Ending) → onValue e (r .after) k ≡ onValue e (r .after) l
     by (Value t x) = h t x (r .after)
     by (Stop n p) = refl
+    by (Unset p q) = refl
     by NoRule = refl
 
 pub valued-one : (e : Ending) (t x : ℕ) → e ≡ Value t x → valued e ≡ 1
@@ -67,16 +73,14 @@ module _ (d p : ℕ) (m : Tables) (r : Ret) (r-is : r ≡ guarded d p m) where
   Found a b = r ≡ pick a (λ _. pick b (λ _. is (Value 7 (d - 1)) (spend m)) λ _. is (Stop 21 p) (spend m)) λ _. is (Stop 20 p) m
 
   -- a stop is what the entry comes to
-  pub guard-stops : NotValue (r .ending) → (k : Tables → Ret) → r ≡ guard d p m k
+  pub guard-stops : NoValue (r .ending) → (k : Tables → Ret) → r ≡ guard d p m k
   unfolding guarded guard pick
   guard-stops h k = by (ltb 0 (m .counts .units)) (ltb 0 d) r-is
     where
       by : (a b : Bool) → Found a b → r ≡ pick a (λ _. pick b (λ _. k (spend m)) λ _. is (Stop 21 p) (spend m)) λ _. is (Stop 20 p) m
       by false b e = e
       by true false e = e
-      by true true e =
-          let z = ap (λ (q : Ret). tagOf the-type (q .ending)) e in
-          absurd (⊎-elim (λ (t : tagOf the-type (r .ending) ≡ 1). omega (arith, z, t)) (λ (t : tagOf the-type (r .ending) ≡ 2). omega (arith, z, t)) h)
+      by true true e = absurd (no-value (r .ending) h (ap (λ (q : Ret). tagOf the-type (q .ending)) e))
 
   module _ (t x : ℕ) (found : r .ending ≡ Value t x) where
     -- a value says that the entry goes on, and how many levels are left

@@ -19,10 +19,10 @@ use Rattle.machine.specs.Machine.{ifAt, operatorIn, callAt, argsAt, allocAt, nt
 use Rattle.machine.proofs.Ending.{the-type}
 use Rattle.machine.proofs.Members.{expr-is, args-go}
 use Rattle.entering.specs.Opening.{guarded, opens}
-use Rattle.stores.proofs.Laws.{not-value}
+use Rattle.stores.proofs.Laws.{NoValue, not-value}
 use Rattle.stores.specs.Choices.{isBit, bitAnswer, branchOf, plainBy, plainValue}
 use Rattle.running.specs.Parts.{partsE, applyV, partsAt, applyAt, innerAt}
-use Rattle.running.proofs.Laws.{NotValue, passes, goes, any-value, follow, guard-stops, guard-goes, guard-level, on-one, on-zero, on-branch, not-one, not-zero}
+use Rattle.running.proofs.Laws.{passes, goes, any-value, follow, guard-stops, guard-goes, guard-level, on-one, on-zero, on-branch, not-one, not-zero}
 
 -- `and` goes on after a 1, and `or` after a 0
 module _ (g : Run) (S : Evaluators) (env sp : ℕ) (n : Node) (m : Tables) where
@@ -67,7 +67,7 @@ module _ (g : Run) (d env sp : ℕ) (m : Tables) (i : ℕ) (n : Node)
     (n-is : n ≡ nodeAt g.tree i)
     (r : Ret)
     (r-is : r ≡ guarded d (n .place) m) where
-  pub expr-stops : NotValue (r .ending) → r ≡ exprAt g d env sp i m
+  pub expr-stops : NoValue (r .ending) → r ≡ exprAt g d env sp i m
   expr-stops h = guard-stops d (n .place) m r r-is h _ ∙ sym (expr-is g d env sp i m n n-is)
 
   module _ (t x : ℕ) (found : r .ending ≡ Value t x) where
@@ -145,7 +145,7 @@ module _ (g : Run) (d env sp : ℕ) (m : Tables) (i : ℕ) (n : Node)
 module _ (g : Run) (d env sp : ℕ) (m : Tables) (n : Node) where
   -- the first part is evaluated
   module _ (r : Ret) (r-is : r ≡ exprAt g d env sp (n .child) m) where
-    module _ (not : NotValue (r .ending)) where
+    module _ (not : NoValue (r .ending)) where
       pub if-passes : r ≡ ifAt g d env sp n m
       unfolding ifE
       if-passes = rw (← r-is) (passes r not _)
@@ -170,7 +170,7 @@ module _ (g : Run) (d env sp : ℕ) (m : Tables) (n : Node) where
           pub if-goes : (k j : ℕ) → e ≡ Value k j → (q : Ret) → q ≡ exprAt g d env sp j (r .after) → q ≡ ifAt g d env sp n m
           if-goes k j h q q-is = q-is ∙ sym (if-chooses ∙ rw h)
 
-          pub if-none : NotValue e → is e (r .after) ≡ ifAt g d env sp n m
+          pub if-none : NoValue e → is e (r .after) ≡ ifAt g d env sp n m
           if-none h = not-value e h (r .after) _ ∙ sym if-chooses
 
         pub parts-go : (b : ℕ) (c : Bool) → c ≡ isBit t x b → c ≡ true → (q : Ret) → q ≡ exprAt g d env sp first (r .after) → q ≡ partsAt g b d env sp n m
@@ -187,7 +187,7 @@ module _ (g : Run) (d env sp : ℕ) (m : Tables) (n : Node) where
 
   -- an operator's first argument is evaluated
   module _ (o first : ℕ) (first-is : first ≡ nodeAt g.tree (n .child) .next) (r : Ret) (r-is : r ≡ exprAt g d env sp first m) where
-    pub operator-passes : NotValue (r .ending) → r ≡ operatorIn g o d env sp n m
+    pub operator-passes : NoValue (r .ending) → r ≡ operatorIn g o d env sp n m
     unfolding operatorE
     operator-passes h = rw (← first-is, ← r-is) (passes r h _)
 
@@ -198,7 +198,7 @@ module _ (g : Run) (d env sp : ℕ) (m : Tables) (n : Node) where
 
       -- and the second
       module _ (some : second ≡ 0 → ⊥) (q : Ret) (q-is : q ≡ exprAt g d env sp second (r .after)) where
-        pub operator-passes-2 : NotValue (q .ending) → q ≡ operatorIn g o d env sp n m
+        pub operator-passes-2 : NoValue (q .ending) → q ≡ operatorIn g o d env sp n m
         unfolding operatorE pick
         operator-passes-2 h = rw (← first-is, ← r-is, goes r t x found _, ← second-is, ne-eqb second 0 some, ← q-is) (passes q h _)
 
@@ -240,18 +240,18 @@ module _ (g : Run) (d env sp : ℕ) (m : Tables) (n : Node) where
             pub operator-many : tagOf the-type (s .ending) ≡ 0 → is NoRule (s .after) ≡ operatorIn g o d env sp n m
             operator-many h = sym (operator-more ∙ any-value s h λ m₃. is NoRule m₃)
 
-            pub operator-passes-3 : NotValue (s .ending) → s ≡ operatorIn g o d env sp n m
+            pub operator-passes-3 : NoValue (s .ending) → s ≡ operatorIn g o d env sp n m
             operator-passes-3 h = passes s h _ ∙ sym operator-more
 
   -- the arguments are evaluated
   module _ (first : ℕ) (first-is : first ≡ nodeAt g.tree (n .child) .next) (r : Ret) (r-is : r ≡ argsAt g d env sp first m) where
     module _ (f tag word : ℕ) where
-      pub apply-passes : NotValue (r .ending) → r ≡ applyAt g f d env sp tag word n m
+      pub apply-passes : NoValue (r .ending) → r ≡ applyAt g f d env sp tag word n m
       unfolding applyV
       apply-passes h = rw (← first-is, ← r-is) (passes r h _)
 
       module _ (t k : ℕ) (found : r .ending ≡ Value t k) (q : Ret) (q-is : q ≡ opens g f (n .place) k sp tag word (r .after)) where
-        pub apply-stops : NotValue (q .ending) → q ≡ applyAt g f d env sp tag word n m
+        pub apply-stops : NoValue (q .ending) → q ≡ applyAt g f d env sp tag word n m
         unfolding applyV
         apply-stops h = rw (← first-is, ← r-is, goes r t k found _, ← q-is) (passes q h _)
 
@@ -275,7 +275,7 @@ module _ (g : Run) (d env : ℕ) (k u top many i : ℕ) (m : Tables) (more : u <
   args-end h = sym (rw (args-are, eq-eqb i 0 h))
 
   module _ (some : i ≡ 0 → ⊥) (r : Ret) (r-is : r ≡ exprAt g d env top i m) where
-    pub args-pass : NotValue (r .ending) → r ≡ args g k (level g d) env top many i m
+    pub args-pass : NoValue (r .ending) → r ≡ args g k (level g d) env top many i m
     unfolding args pick
     args-pass h = rw (args-are, ne-eqb i 0 some, ← r-is) (passes r h _)
 

@@ -16,29 +16,30 @@ use mir.Val.{toZ, ofZ, SFits}
 use mir.Facts.{toZ-ofZ}
 use Rattle.nodes.specs.declared.Node.{Node}
 use Rattle.machine.specs.declared.Binding.{Binding}
+use Rattle.machine.specs.declared.Cell.{Cell}
 use Rattle.machine.specs.declared.Counts.{Counts}
 use Rattle.machine.specs.declared.Row.{Row}
 use Rattle.machine.specs.declared.Ending.{Ending}
-use Rattle.machine.specs.declared.Ending.the-variants.{Value, Stop, NoRule}
-use Rattle.machine.specs.Entries.{pick, bindingAt, putRow, putRows, nodeOf, envOf}
+use Rattle.machine.specs.declared.Ending.the-variants.{Value, Stop, Unset, NoRule}
+use Rattle.machine.specs.Entries.{pick, bindingAt, putCell, putCells, nodeOf, envOf}
 use Rattle.machine.specs.State.{Run, Tables, tables, Ret, is, andThen, ifValue, onValue}
 use Rattle.machine.specs.Leaves.{codeIn, walk, stored, elementOf, setElement}
 use Rattle.machine.proofs.Ending.{the-type}
 use Rattle.stores.specs.Choices.{outward, plainBy, plainValue, echoed}
 
--- ---- rows
+-- ---- cells
 
 one-more : (n : ℕ) → (n ≡ 0 → ⊥) → suc (n - 1) ≡ n
 one-more n h = omega arith
 
-pub rows-go-on : (left at tag word : ℕ) (l l₁ : List ℕ) → (left ≡ 0 → ⊥) → l₁ ≡ putRow l at tag word →
-    putRows (left - 1) l₁ (at + 1) tag word ≡ putRows left l at tag word
-unfolding putRows
-rows-go-on left at tag word l l₁ h e = rw (e, add-one at) (ap (λ (j : ℕ). putRows j l at tag word) (one-more left h))
+pub cells-go-on : (left at : ℕ) (l l₁ : List ℕ) (c : Cell) → (left ≡ 0 → ⊥) → l₁ ≡ putCell l at c →
+    putCells (left - 1) l₁ (at + 1) c ≡ putCells left l at c
+unfolding putCells
+cells-go-on left at l l₁ c h e = rw (e, add-one at) (ap (λ (j : ℕ). putCells j l at c) (one-more left h))
 
-pub rows-end : (left at tag word : ℕ) (l : List ℕ) → left ≡ 0 → l ≡ putRows left l at tag word
-unfolding putRows
-rows-end left at tag word l h = rw h
+pub cells-end : (left at : ℕ) (l : List ℕ) (c : Cell) → left ≡ 0 → l ≡ putCells left l at c
+unfolding putCells
+cells-end left at l c h = rw h
 
 -- ---- names
 
@@ -75,17 +76,22 @@ module _ (b : List ℕ) (c : ℕ) where
       unfolding walk pick
       walk-goes-on h = go-on (leb c (codeIn b (x .jump))) refl ∙ rw (walk-go, ne-eqb env 0 there, ← x-is, ne-eqb _ c h)
 
--- an answer that is no value is passed on
-pub if-not-value : (e : Ending) → (tagOf the-type e ≡ 1) ⊎ (tagOf the-type e ≡ 2) → (k : ℕ → ℕ → Ending) → e ≡ ifValue e k
-if-not-value (Value t x) h k = ⊎-elim (λ q. absurd (omega arith)) (λ q. absurd (omega arith)) h
+-- what the code knows of an answer that is no value, by the variants that are left
+abbrev pub NoValue : Ending → Type 0
+NoValue e = (tagOf the-type e ≡ 1) ⊎ ((tagOf the-type e ≡ 2) ⊎ (tagOf the-type e ≡ 3))
+
+-- it is passed on
+pub if-not-value : (e : Ending) → NoValue e → (k : ℕ → ℕ → Ending) → e ≡ ifValue e k
+if-not-value (Value t x) h k = ⊎-elim (λ q. absurd (omega arith)) (⊎-elim (λ q. absurd (omega arith)) λ q. absurd (omega arith)) h
 if-not-value (Stop n p) h k = refl
+if-not-value (Unset p q) h k = refl
 if-not-value NoRule h k = refl
 
 -- the same for an answer with the tables
-pub not-value : (e : Ending) → (tagOf the-type e ≡ 1) ⊎ (tagOf the-type e ≡ 2) → (m : Tables) (k : ℕ → ℕ → Tables → Ret) →
-    is e m ≡ onValue e m k
-not-value (Value t x) h m k = ⊎-elim (λ q. absurd (omega arith)) (λ q. absurd (omega arith)) h
+pub not-value : (e : Ending) → NoValue e → (m : Tables) (k : ℕ → ℕ → Tables → Ret) → is e m ≡ onValue e m k
+not-value (Value t x) h m k = ⊎-elim (λ q. absurd (omega arith)) (⊎-elim (λ q. absurd (omega arith)) λ q. absurd (omega arith)) h
 not-value (Stop n p) h m k = refl
+not-value (Unset p q) h m k = refl
 not-value NoRule h m k = refl
 
 -- ---- blocks of cells
@@ -100,7 +106,7 @@ module _ (p : ℕ) (block index : Row) (tag word : ℕ) (m : Tables) (e : Ending
   unfolding setElement andThen
   element-set t a found = rw (← e-is, found)
 
-  pub element-none : (tagOf the-type e ≡ 1) ⊎ (tagOf the-type e ≡ 2) → is e m ≡ setElement p block index tag word m
+  pub element-none : NoValue e → is e m ≡ setElement p block index tag word m
   unfolding setElement andThen
   element-none h = rw (← e-is) (not-value e h m _)
 

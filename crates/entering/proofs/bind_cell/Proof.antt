@@ -5,8 +5,11 @@ use borrow.Author.Needs.{needs}
 use Rattle.entering.proofs.bind_cell.Statement.{statement}
 use Rattle.entering.proofs.bind_cell.Tie as tie
 
-put-row-requires : tie.Need-put-row-requires
-put-row-requires c κs = search needs
+fresh-cell-requires : tie.Need-fresh-cell-requires
+fresh-cell-requires c κs = search needs
+
+put-cell-requires : tie.Need-put-cell-requires
+put-cell-requires c κs = search needs
 
 with-cells-requires : tie.Need-with-cells-requires
 with-cells-requires c κs = search needs
@@ -22,7 +25,7 @@ same-length-2 c = search needs
 
 returns : tie.Need-returns
 returns c = (
-  (λ t v w o. c .before .before .bind-name .ensures .0 t v _ w o ∙ cell-some _ _ _ _ (c .before .before .before .before .before .before .before .before .before .if1 .taken) _ _ (c .before .before .before .before .before .before .before .put-row .ensures) (c .before .before .before .before .with-cells .ensures)),
+  (λ t v w o. c .before .before .bind-name .ensures .0 t v _ w o ∙ cell-some _ _ _ _ (c .before .before .before .before .before .before .before .before .before .before .if1 .taken) _ _ _ (c .before .before .before .before .before .before .before .before .fresh-cell .ensures) (c .before .before .before .before .before .before .before .put-cell .ensures) (c .before .before .before .before .with-cells .ensures)),
   c .before .before .bind-name .ensures .1 ∙ rw (c .before .before .before .before .with-cells .ensures),
 )
 
@@ -33,7 +36,8 @@ pub bind-cell-spec : {M : Type 1} → statement M
 bind-cell-spec =
     tie.close
     (tie.spec
-    put-row-requires
+    fresh-cell-requires
+    put-cell-requires
     with-cells-requires
     bind-name-requires
     same-length

@@ -19,22 +19,25 @@ returns-3 : tie.Need-returns-3
 returns-3 c =
     ((λ t v b w o. allocate-full _ _ _ _ (c .before .before .before .if1 .left) (c .before .before .if2 .left) _ (c .before .has-room .ensures) (not-true (c .before .has-room .result) (c .if3 .taken))), refl)
 
-put-rows-requires : tie.Need-put-rows-requires
-put-rows-requires c κs = room-word _ _ _ (c .before .before .has-room .ensures) (c .before .if3 .left) (search needs)
+fresh-cell-requires : tie.Need-fresh-cell-requires
+fresh-cell-requires c κs = search needs
+
+put-cells-requires : tie.Need-put-cells-requires
+put-cells-requires c κs = room-word _ _ _ (c .before .before .before .has-room .ensures) (c .before .before .if3 .left) (search needs)
 
 closure-word-requires : tie.Need-closure-word-requires
 closure-word-requires c κs = search needs
 
 with-cells-requires : tie.Need-with-cells-requires
-with-cells-requires c κs = room-word _ _ _ (c .before .before .before .before .before .before .has-room .ensures) (c .before .before .before .before .before .if3 .left) (search needs)
+with-cells-requires c κs = room-word _ _ _ (c .before .before .before .before .before .before .before .has-room .ensures) (c .before .before .before .before .before .before .if3 .left) (search needs)
 
 same-length : tie.Need-same-length
 same-length c = search needs
 
 returns-4 : tie.Need-returns-4
 returns-4 c = (
-  (λ t v b w o. allocate-some _ _ _ _ (c .before .before .before .before .before .before .before .before .before .if1 .left) (c .before .before .before .before .before .before .before .before .if2 .left) _ (c .before .before .before .before .before .before .before .has-room .ensures) (not-false (c .before .before .before .before .before .before .before .has-room .result) (c .before .before .before .before .before .before .if3 .left)) _ _ _
-      (c .before .before .before .before .put-rows .ensures) (c .before .closure-word .ensures) (c .with-cells .ensures)),
+  (λ t v b w o. allocate-some _ _ _ _ (c .before .before .before .before .before .before .before .before .before .before .if1 .left) (c .before .before .before .before .before .before .before .before .before .if2 .left) _ (c .before .before .before .before .before .before .before .before .has-room .ensures) (not-false (c .before .before .before .before .before .before .before .before .has-room .result) (c .before .before .before .before .before .before .before .if3 .left)) _ _ _ _
+      (c .before .before .before .before .before .fresh-cell .ensures) (c .before .before .before .before .put-cells .ensures) (c .before .closure-word .ensures) (c .with-cells .ensures)),
   rw (c .with-cells .ensures),
 )
 
@@ -46,7 +49,8 @@ make-cells-spec =
     returns-2
     has-room-requires
     returns-3
-    put-rows-requires
+    fresh-cell-requires
+    put-cells-requires
     closure-word-requires
     with-cells-requires
     same-length

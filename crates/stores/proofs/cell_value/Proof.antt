@@ -10,16 +10,16 @@ returns : tie.Need-returns
 unfolding cellValue pick
 returns c = rw (le-ltb _ _ (c .if1 .taken))
 
-row-at-requires : tie.Need-row-at-requires
-row-at-requires c κs = search needs
+cell-at-requires : tie.Need-cell-at-requires
+cell-at-requires c κs = search needs
 
 returns-2 : tie.Need-returns-2
 unfolding cellValue pick
-returns-2 c = rw (lt-ltb _ _ (c .before .before .before .if1 .left), ← c .before .before .row-at .ensures, eq-eqb _ 6 (c .if2 .taken))
+returns-2 c = rw (lt-ltb _ _ (c .before .before .before .if1 .left), ← c .before .before .cell-at .ensures, eq-eqb _ 6 (c .if2 .taken))
 
 returns-3 : tie.Need-returns-3
 unfolding cellValue pick
-returns-3 c = rw (lt-ltb _ _ (c .before .before .before .if1 .left), ← c .before .before .row-at .ensures, ne-eqb _ 6 (c .if2 .left))
+returns-3 c = rw (lt-ltb _ _ (c .before .before .before .if1 .left), ← c .before .before .cell-at .ensures, ne-eqb _ 6 (c .if2 .left))
 
 pub cell-value-spec : {M : Type 1} → statement M
-cell-value-spec = tie.close (tie.spec returns row-at-requires returns-2 returns-3)
+cell-value-spec = tie.close (tie.spec returns cell-at-requires returns-2 returns-3)
