@@ -39,7 +39,7 @@ typedef char mahrullis_needs_64_bits[sizeof(size_t) == 8 ? 1 : -1];
 #define MAHRULLIS_SCOPES_ENTRIES 4096
 #define MAHRULLIS_NOTES_ENTRIES 4096
 #define MAHRULLIS_WAITING_ENTRIES 8192
-#define MAHRULLIS_REPORT_ENTRIES 6
+#define MAHRULLIS_REPORT_ENTRIES 7
 #define MAHRULLIS_PART_ENTRIES 2
 /* bindings, cells and output: so many entries for each one that the limit admits. */
 #define MAHRULLIS_ENTRIES_A_BINDING 2
@@ -109,12 +109,12 @@ enum mahrullis_kind {
     MAHRULLIS_KIND_VSET = 30
 };
 
-/* CHECK: is the text a program whose types hold? Answers an enum mahrullis_answer and writes report[0] to report[5]: the answer, its place, and four zeros.
+/* CHECK: is the text a program whose types hold? Answers an enum mahrullis_answer and writes report[0] to report[6]: the answer, its place, and five zeros.
  * Left behind, entries past a table's size untouched and the text only read:
- *   after 1 and 3   every table as it was, but for those six entries of the report
+ *   after 1 and 3   every table as it was, but for those seven entries of the report
  *   after 4 to 10   tree, words, stack, scopes and notes zero up to their sizes
  *   accepted        the tree, then zeros up to word 4,096; words, stack, scopes and notes zero up to their sizes
- * A report of under six entries is answered TABLE before anything else, and then it too is left as it was. */
+ * A report of under seven entries is answered TABLE before anything else, and then it too is left as it was. */
 uint64_t mahrullis_check(const uint8_t *text, size_t text_length,
     uint64_t *tree, size_t tree_length,
     uint64_t *words, size_t words_length,
@@ -123,14 +123,15 @@ uint64_t mahrullis_check(const uint8_t *text, size_t text_length,
     uint64_t *notes, size_t notes_length,
     uint64_t *report, size_t report_length);
 
-/* RUN: checks the text and runs it within the limits. Answers an enum mahrullis_answer and writes report[0] to report[5]: the answer, its place, the units,
- * bindings and cells taken, and how many numbers were put out; the last four are 0 after 1 to 10.
+/* RUN: checks the text and runs it within the limits. Answers an enum mahrullis_answer and writes report[0] to report[6]: the answer, its place, the units,
+ * bindings and cells taken, how many numbers were put out, and after UNSET the place of the VAR or alloc that made the cell. The four counts are 0 after 1 to 10, and
+ * the last entry is 0 after every answer but UNSET.
  * Left behind, entries past a table's size untouched and the text only read:
- *   after 1 to 3    every table as it was, but for those six entries of the report
+ *   after 1 to 3    every table as it was, but for those seven entries of the report
  *   after 4 to 10   tree, words, stack, scopes, notes and waiting zero up to their sizes; bindings, cells and output as they were
  *   after a run     the tree, then zeros up to word 4,096; words, stack, scopes, notes and waiting zero up to their sizes; bindings and cells zero as far as
  *                   their limits; the numbers put out, oldest first, and the rest of the output as it was
- * A report of under six entries is answered TABLE before anything else, and then it too is left as it was. */
+ * A report of under seven entries is answered TABLE before anything else, and then it too is left as it was. */
 uint64_t mahrullis_run(const uint8_t *text, size_t text_length,
     uint64_t fuel, uint64_t depth, uint64_t most_bindings, uint64_t most_cells, uint64_t most_numbers,
     uint64_t *tree, size_t tree_length,
@@ -250,7 +251,7 @@ struct mahrullis_limits {
 #define MAHRULLIS_GREATEST_LIMITS \
     { MAHRULLIS_FUEL_MOST, MAHRULLIS_DEPTH_MOST, MAHRULLIS_BINDINGS_MOST, MAHRULLIS_CELLS_MOST, MAHRULLIS_OUTPUT_MOST }
 
-/* A report's six entries, in their order. */
+/* A report's seven entries, in their order. */
 struct mahrullis_report {
     uint64_t code;     /* an enum mahrullis_answer */
     uint64_t place;    /* a byte of the text, or its length; 0 where the answer has no place */
@@ -258,6 +259,7 @@ struct mahrullis_report {
     uint64_t bindings; /* made */
     uint64_t cells;    /* taken */
     uint64_t numbers;  /* put out: tables.output[0] to tables.output[numbers - 1] */
+    uint64_t made;     /* after UNSET the byte of the VAR or alloc that made the cell, else 0 */
 };
 
 /* A part of a text: `length` bytes from `offset`, never past its end. */
@@ -280,6 +282,7 @@ static inline struct mahrullis_report mahrullis_report_in(const uint64_t *table)
     report.bindings = table[3];
     report.cells = table[4];
     report.numbers = table[5];
+    report.made = table[6];
     return report;
 }
 

@@ -14,36 +14,36 @@ struct script {
     int64_t numbers[4];
 };
 
-/* Expected: code, place, units, bindings, cells, how many numbers. */
+/* Expected: code, place, units, bindings, cells, how many numbers, and where UNSET's cell was made. */
 static const struct script scripts[] = {
-    { "[ECHO (add 1 2)]", GREATEST, { MAHRULLIS_DONE, 0, 4, 0, 0, 1 }, { 3 } },
-    { "[ECHO (add 1 2)]", WITH_FUEL(3), { MAHRULLIS_FUEL, 13, 3, 0, 0, 0 }, { 0 } },
-    { "[ECHO 1]", WITH_DEPTH(1), { MAHRULLIS_DEPTH, 6, 2, 0, 0, 0 }, { 0 } },
-    { "[CONST x int 0; SET x 42]", GREATEST, { MAHRULLIS_TYPE, 16, 0, 0, 0, 0 }, { 0 } },
-    { "[VAR x int; ECHO x]", GREATEST, { MAHRULLIS_UNSET, 17, 3, 1, 1, 0 }, { 0 } },
-    { "[ECHO (div 1 0)]", GREATEST, { MAHRULLIS_ZERO, 6, 4, 0, 0, 0 }, { 0 } },
-    { "[ECHO (div -7 2)]", GREATEST, { MAHRULLIS_DONE, 0, 4, 0, 0, 1 }, { -4 } },
-    { "[]", GREATEST, { MAHRULLIS_SYNTAX, 1, 0, 0, 0, 0 }, { 0 } },
-    { "[ECHO true]", GREATEST, { MAHRULLIS_TYPE, 1, 0, 0, 0, 0 }, { 0 } },
-    { "[ECHO y]", GREATEST, { MAHRULLIS_TYPE, 6, 0, 0, 0, 0 }, { 0 } },
-    { "[CONST f (int * int -> int) add; ECHO 1]", GREATEST, { MAHRULLIS_TYPE, 28, 0, 0, 0, 0 }, { 0 } },
-    { "[FUN f int [fare:int, fare:bool] 1; ECHO 1]", GREATEST, { MAHRULLIS_DOUBLE, 22, 0, 0, 0, 0 }, { 0 } },
-    { "[PROC p [var x:int] [SET x (add x 1)]; VAR v int; SET v 41; CALL p (adr v); ECHO v]", GREATEST, { MAHRULLIS_DONE, 0, 12, 3, 1, 1 }, { 42 } },
-    { "[PROC p [var x:int] [SET x (add x 1)]; VAR v int; SET v 41; CALL p v; ECHO v]", GREATEST, { MAHRULLIS_TYPE, 60, 0, 0, 0, 0 }, { 0 } },
-    { "[FUN REC f int [n:int] (if (lt n 1) 0 (add n (f (sub n 1)))); ECHO (f 3)]", GREATEST, { MAHRULLIS_DONE, 0, 43, 9, 0, 1 }, { 6 } },
-    { "[ECHO (mul 4294967295 2147483648)]", GREATEST, { MAHRULLIS_DONE, 0, 4, 0, 0, 1 }, { 9223372034707292160 } },
-    { "[ECHO (mul 4294967296 2147483648)]", GREATEST, { MAHRULLIS_RANGE, 6, 4, 0, 0, 0 }, { 0 } },
-    { "[ECHO (div -9223372036854775808 -1)]", GREATEST, { MAHRULLIS_RANGE, 6, 4, 0, 0, 0 }, { 0 } },
-    { "[ECHO 9223372036854775807; ECHO -9223372036854775808]", GREATEST, { MAHRULLIS_DONE, 0, 4, 0, 0, 2 }, { 9223372036854775807, -9223372036854775807 - 1 } },
-    { "[ECHO 9223372036854775808]", GREATEST, { MAHRULLIS_NUMBER, 6, 0, 0, 0, 0 }, { 0 } },
-    { "[VAR x int; SET x 0; WHILE (lt x 3) [ECHO x; SET x (add x 1)]]", WITH_FUEL(100000), { MAHRULLIS_DONE, 0, 37, 1, 1, 3 }, { 0, 1, 2 } },
-    { "", GREATEST, { MAHRULLIS_SYNTAX, 0, 0, 0, 0, 0 }, { 0 } },
-    { "[CONST b (vec int) (alloc int 3); ECHO (len b); ECHO (nth (vset b 2 7) 2); ECHO (nth b 2)]", GREATEST, { MAHRULLIS_DONE, 0, 17, 1, 3, 3 }, { 3, 7, 7 } },
-    { "[ECHO (len (alloc int 4097))]", GREATEST, { MAHRULLIS_CELLS, 11, 4, 0, 0, 0 }, { 0 } },
-    { "[ECHO (len (alloc int -1))]", GREATEST, { MAHRULLIS_SIZE, 11, 4, 0, 0, 0 }, { 0 } },
-    { "[ECHO (nth (alloc int 3) 3)]", GREATEST, { MAHRULLIS_INDEX, 6, 5, 0, 3, 0 }, { 0 } },
-    { "[ECHO (nth (alloc int 3) 0)]", GREATEST, { MAHRULLIS_UNSET, 6, 5, 0, 3, 0 }, { 0 } },
-    { "[CONST v (vec (int -> int)) y; ECHO 1]", GREATEST, { MAHRULLIS_TYPE, 9, 0, 0, 0, 0 }, { 0 } },
+    { "[ECHO (add 1 2)]", GREATEST, { MAHRULLIS_DONE, 0, 4, 0, 0, 1, 0 }, { 3 } },
+    { "[ECHO (add 1 2)]", WITH_FUEL(3), { MAHRULLIS_FUEL, 13, 3, 0, 0, 0, 0 }, { 0 } },
+    { "[ECHO 1]", WITH_DEPTH(1), { MAHRULLIS_DEPTH, 6, 2, 0, 0, 0, 0 }, { 0 } },
+    { "[CONST x int 0; SET x 42]", GREATEST, { MAHRULLIS_TYPE, 16, 0, 0, 0, 0, 0 }, { 0 } },
+    { "[VAR x int; ECHO x]", GREATEST, { MAHRULLIS_UNSET, 17, 3, 1, 1, 0, 1 }, { 0 } },
+    { "[ECHO (div 1 0)]", GREATEST, { MAHRULLIS_ZERO, 6, 4, 0, 0, 0, 0 }, { 0 } },
+    { "[ECHO (div -7 2)]", GREATEST, { MAHRULLIS_DONE, 0, 4, 0, 0, 1, 0 }, { -4 } },
+    { "[]", GREATEST, { MAHRULLIS_SYNTAX, 1, 0, 0, 0, 0, 0 }, { 0 } },
+    { "[ECHO true]", GREATEST, { MAHRULLIS_TYPE, 1, 0, 0, 0, 0, 0 }, { 0 } },
+    { "[ECHO y]", GREATEST, { MAHRULLIS_TYPE, 6, 0, 0, 0, 0, 0 }, { 0 } },
+    { "[CONST f (int * int -> int) add; ECHO 1]", GREATEST, { MAHRULLIS_TYPE, 28, 0, 0, 0, 0, 0 }, { 0 } },
+    { "[FUN f int [fare:int, fare:bool] 1; ECHO 1]", GREATEST, { MAHRULLIS_DOUBLE, 22, 0, 0, 0, 0, 0 }, { 0 } },
+    { "[PROC p [var x:int] [SET x (add x 1)]; VAR v int; SET v 41; CALL p (adr v); ECHO v]", GREATEST, { MAHRULLIS_DONE, 0, 12, 3, 1, 1, 0 }, { 42 } },
+    { "[PROC p [var x:int] [SET x (add x 1)]; VAR v int; SET v 41; CALL p v; ECHO v]", GREATEST, { MAHRULLIS_TYPE, 60, 0, 0, 0, 0, 0 }, { 0 } },
+    { "[FUN REC f int [n:int] (if (lt n 1) 0 (add n (f (sub n 1)))); ECHO (f 3)]", GREATEST, { MAHRULLIS_DONE, 0, 43, 9, 0, 1, 0 }, { 6 } },
+    { "[ECHO (mul 4294967295 2147483648)]", GREATEST, { MAHRULLIS_DONE, 0, 4, 0, 0, 1, 0 }, { 9223372034707292160 } },
+    { "[ECHO (mul 4294967296 2147483648)]", GREATEST, { MAHRULLIS_RANGE, 6, 4, 0, 0, 0, 0 }, { 0 } },
+    { "[ECHO (div -9223372036854775808 -1)]", GREATEST, { MAHRULLIS_RANGE, 6, 4, 0, 0, 0, 0 }, { 0 } },
+    { "[ECHO 9223372036854775807; ECHO -9223372036854775808]", GREATEST, { MAHRULLIS_DONE, 0, 4, 0, 0, 2, 0 }, { 9223372036854775807, -9223372036854775807 - 1 } },
+    { "[ECHO 9223372036854775808]", GREATEST, { MAHRULLIS_NUMBER, 6, 0, 0, 0, 0, 0 }, { 0 } },
+    { "[VAR x int; SET x 0; WHILE (lt x 3) [ECHO x; SET x (add x 1)]]", WITH_FUEL(100000), { MAHRULLIS_DONE, 0, 37, 1, 1, 3, 0 }, { 0, 1, 2 } },
+    { "", GREATEST, { MAHRULLIS_SYNTAX, 0, 0, 0, 0, 0, 0 }, { 0 } },
+    { "[CONST b (vec int) (alloc int 3); ECHO (len b); ECHO (nth (vset b 2 7) 2); ECHO (nth b 2)]", GREATEST, { MAHRULLIS_DONE, 0, 17, 1, 3, 3, 0 }, { 3, 7, 7 } },
+    { "[ECHO (len (alloc int 4097))]", GREATEST, { MAHRULLIS_CELLS, 11, 4, 0, 0, 0, 0 }, { 0 } },
+    { "[ECHO (len (alloc int -1))]", GREATEST, { MAHRULLIS_SIZE, 11, 4, 0, 0, 0, 0 }, { 0 } },
+    { "[ECHO (nth (alloc int 3) 3)]", GREATEST, { MAHRULLIS_INDEX, 6, 5, 0, 3, 0, 0 }, { 0 } },
+    { "[ECHO (nth (alloc int 3) 0)]", GREATEST, { MAHRULLIS_UNSET, 6, 5, 0, 3, 0, 11 }, { 0 } },
+    { "[CONST v (vec (int -> int)) y; ECHO 1]", GREATEST, { MAHRULLIS_TYPE, 9, 0, 0, 0, 0, 0 }, { 0 } },
 };
 
 static struct mahrullis_tables tables, before;
@@ -59,13 +59,14 @@ static void hold(const char *what, int holds) {
 }
 
 static int same_report(struct mahrullis_report a, struct mahrullis_report b) {
-    return a.code == b.code && a.place == b.place && a.units == b.units && a.bindings == b.bindings && a.cells == b.cells && a.numbers == b.numbers;
+    return a.code == b.code && a.place == b.place && a.units == b.units && a.bindings == b.bindings && a.cells == b.cells && a.numbers == b.numbers &&
+        a.made == b.made;
 }
 
 /* Runs a text and compares the report and the first numbers, at most four; then checks it, which refuses the same texts at the same places. */
 static void try_text(const char *what, const char *bytes, size_t length, struct script script) {
     struct mahrullis_report report = mahrullis_run_text(bytes, length, script.limits, &tables);
-    struct mahrullis_report checked = { 0, 0, 0, 0, 0, 0 };
+    struct mahrullis_report checked = { 0, 0, 0, 0, 0, 0, 0 };
     hold(what, same_report(report, script.expected));
     for (uint64_t i = 0; i < script.expected.numbers && i < 4; i++) hold(what, tables.output[i] == script.numbers[i]);
     if (script.expected.code < MAHRULLIS_FUEL) checked.code = script.expected.code, checked.place = script.expected.place;
@@ -78,8 +79,8 @@ static void try_scripts(void) {
 }
 
 static void try_lengths(void) {
-    struct script fits = { 0, GREATEST, { MAHRULLIS_DONE, 0, 2, 0, 0, 1 }, { 1 } };
-    struct script too_long = { 0, GREATEST, { MAHRULLIS_LENGTH, 0, 0, 0, 0, 0 }, { 0 } };
+    struct script fits = { 0, GREATEST, { MAHRULLIS_DONE, 0, 2, 0, 0, 1, 0 }, { 1 } };
+    struct script too_long = { 0, GREATEST, { MAHRULLIS_LENGTH, 0, 0, 0, 0, 0, 0 }, { 0 } };
     memset(text, ' ', sizeof text);
     memcpy(text, "[ECHO 1]", 8);
     try_text("16,384 bytes", text, 16384, fits);
@@ -87,8 +88,8 @@ static void try_lengths(void) {
 }
 
 static void try_tokens(void) {
-    struct script fits = { 0, GREATEST, { MAHRULLIS_DONE, 0, 2730, 0, 0, 1365 }, { 1, 1, 1, 1 } };
-    struct script too_many = { 0, GREATEST, { MAHRULLIS_TOKENS, 9556, 0, 0, 0, 0 }, { 0 } };
+    struct script fits = { 0, GREATEST, { MAHRULLIS_DONE, 0, 2730, 0, 0, 1365, 0 }, { 1, 1, 1, 1 } };
+    struct script too_many = { 0, GREATEST, { MAHRULLIS_TOKENS, 9556, 0, 0, 0, 0, 0 }, { 0 } };
     size_t length = 1;
     text[0] = '[';
     for (int i = 0; i < 1365; i++, length += 7) memcpy(text + length, "ECHO 1;", 7);
@@ -110,14 +111,14 @@ static size_t nested(int levels) {
 }
 
 static void try_levels(void) {
-    struct script fits = { 0, GREATEST, { MAHRULLIS_DONE, 0, 128, 0, 0, 1 }, { 64 } };
-    struct script too_deep = { 0, GREATEST, { MAHRULLIS_LEVEL, 447, 0, 0, 0, 0 }, { 0 } };
+    struct script fits = { 0, GREATEST, { MAHRULLIS_DONE, 0, 128, 0, 0, 1, 0 }, { 64 } };
+    struct script too_deep = { 0, GREATEST, { MAHRULLIS_LEVEL, 447, 0, 0, 0, 0, 0 }, { 0 } };
     try_text("64 levels", text, nested(64), fits);
     try_text("65 levels", text, nested(65), too_deep);
 }
 
 static void try_limits(void) {
-    struct mahrullis_report refused = { MAHRULLIS_LIMIT, 0, 0, 0, 0, 0 };
+    struct mahrullis_report refused = { MAHRULLIS_LIMIT, 0, 0, 0, 0, 0, 0 };
     for (int i = 0; i < 10; i++) {
         struct mahrullis_limits limits = GREATEST;
         uint64_t *each[5];
@@ -166,11 +167,11 @@ static void try_names(void) {
 
 /* Every table has its least length but for one, which has none or one entry too few: tables 0 to 8 in the struct's order, 9 the report. */
 static void try_short_table(int table, int empty) {
-    static const size_t least[10] = { 4096, 4096, 4097, 4096, 4096, 8192, 8192, 8192, 4096, 6 };
-    static const uint64_t none[6] = { 1, 2, 3, 4, 5, 6 }, refused[6] = { MAHRULLIS_TABLE, 0, 0, 0, 0, 0 };
+    static const size_t least[10] = { 4096, 4096, 4097, 4096, 4096, 8192, 8192, 8192, 4096, 7 };
+    static const uint64_t none[7] = { 1, 2, 3, 4, 5, 6, 7 }, refused[7] = { MAHRULLIS_TABLE, 0, 0, 0, 0, 0, 0 };
     const uint64_t *left = table == 9 ? none : refused;
     const uint8_t *script = (const uint8_t *)"[ECHO 1]";
-    uint64_t report[6];
+    uint64_t report[7];
     size_t n[10];
     memcpy(n, least, sizeof n);
     n[table] = empty ? 0 : least[table] - 1;

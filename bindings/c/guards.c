@@ -18,7 +18,7 @@ enum job { CHECK, RUN, NAME, JOBS };
 #define GUARD 64
 #define SPARE 32
 #define AROUND (2 * GUARD + 2 * SPARE)
-#define AREA_ENTRIES (4096 * 5 + 4097 + 8192 + 8192 * 2 + 6 + 2 + TABLES * AROUND)
+#define AREA_ENTRIES (4096 * 5 + 4097 + 8192 + 8192 * 2 + 7 + 2 + TABLES * AROUND)
 
 struct table {
     const char *name;
@@ -31,7 +31,7 @@ struct table {
 static struct table tables[TABLES] = {
     { "tree", 4096, 0, 0, 0, 0, 0 }, { "words", 4096, 0, 0, 0, 0, 0 }, { "stack", 4097, 0, 0, 0, 0, 0 }, { "scopes", 4096, 0, 0, 0, 0, 0 },
     { "notes", 4096, 0, 0, 0, 0, 0 }, { "waiting", 8192, 0, 0, 0, 0, 0 }, { "bindings", 8192, 0, 0, 0, 0, 0 }, { "cells", 8192, 0, 0, 0, 0, 0 },
-    { "output", 4096, 0, 0, 0, 0, 0 }, { "report", 6, 0, 0, 0, 0, 0 }, { "part", 2, 0, 0, 0, 0, 0 },
+    { "output", 4096, 0, 0, 0, 0, 0 }, { "report", 7, 0, 0, 0, 0, 0 }, { "part", 2, 0, 0, 0, 0, 0 },
 };
 
 static uint64_t areas[AREA_ENTRIES], images[AREA_ENTRIES];
@@ -182,10 +182,10 @@ static void expect_part(void) {
     image(PART)[1] = end - offset;
 }
 
-/* A report of no run: four zeros. Of a run: within the limits, and a limit stop has reached its limit. */
+/* A report of no run: no counts. Of a run: within the limits, and a limit stop has reached its limit. UNSET's second place is a VAR's or an alloc's. */
 static void expect_report(void) {
     const uint64_t *r = entries(REPORT);
-    uint64_t place = r[1], units = r[2], bindings = r[3], cells = r[4], numbers = r[5];
+    uint64_t place = r[1], units = r[2], bindings = r[3], cells = r[4], numbers = r[5], made = r[6];
     hold(r[0] == answer, "the report has the answer");
     hold(answer == 7 ? place <= text_length : answer == 0 || answer <= 3 ? place == 0 : place < text_length, "the place lies in the text");
     if (job == CHECK || (answer >= 1 && answer <= 10)) hold(units == 0 && bindings == 0 && cells == 0 && numbers == 0, "no run, no counts");
@@ -193,6 +193,7 @@ static void expect_report(void) {
     if (answer == MAHRULLIS_FUEL) hold(units == limits.fuel, "FUEL: every unit is taken");
     if (answer == MAHRULLIS_CELLS && text[place] != '(') hold(cells == limits.cells, "CELLS at a VAR: every cell is taken");
     if (answer == MAHRULLIS_OUTPUT) hold(numbers == limits.output, "OUTPUT: every number is out");
+    hold(answer == MAHRULLIS_UNSET ? made < text_length && (text[made] == 'V' || text[made] == '(') : made == 0, "where UNSET's cell was made");
     memcpy(image(REPORT), r, MAHRULLIS_REPORT_ENTRIES * sizeof r[0]);
 }
 

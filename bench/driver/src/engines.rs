@@ -72,11 +72,11 @@ impl Engines {
         let (report, numbers) = match engine {
             Engine::Ours => match self.gate.run(text, limits_of(limits)) {
                 Ok(done) => {
-                    let (code, place) = match done.end {
-                        End::Done => (0, 0),
-                        End::Stopped { stop, place } => (stop.number() as u8, place as u16),
+                    let (code, place, made) = match done.end {
+                        End::Done => (0, 0, 0),
+                        End::Stopped { stop, place, made } => (stop.number() as u8, place as u16, made.unwrap_or(0) as u16),
                     };
-                    let report = Report { code, place, units: done.units as u32, bindings: done.bindings as u32, cells: done.cells as u32 };
+                    let report = Report { code, place, units: done.units as u32, bindings: done.bindings as u32, cells: done.cells as u32, made };
                     (report, done.numbers.to_vec())
                 }
                 Err(refusal) => (refused(refusal), Vec::new()),

@@ -100,6 +100,8 @@ pub struct Report {
     pub bindings: u32,
     /// Cells taken.
     pub cells: u32,
+    /// Where UNSET's cell was made, 0 with every other answer.
+    pub made: u16,
 }
 
 impl From<Refusal> for Report {

@@ -21,6 +21,8 @@ pub struct Room {
     /// Arguments that wait for their call.
     waiting: Vec<i64>,
     cells: Vec<Option<i64>>,
+    /// The place of the VAR or alloc that made each cell.
+    makers: Vec<u16>,
     pub output: Vec<i64>,
 }
 
@@ -29,6 +31,7 @@ impl Room {
         self.frames.clear();
         self.waiting.clear();
         self.cells.clear();
+        self.makers.clear();
         self.output.clear();
     }
 }
@@ -42,6 +45,8 @@ pub struct Machine<'a> {
     fuel: u32,
     bindings: u32,
     stop: Refusal,
+    /// Where the cell was made that UNSET names.
+    made: u16,
 }
 
 /// A closure's word has its frame in the lower half.
@@ -80,7 +85,7 @@ impl<'a> Machine<'a> {
     /// Over a room that is clear, with limits that are admitted.
     pub fn new(code: &'a Code, numbers: &'a [i64], limits: Limits, room: &'a mut Room) -> Machine<'a> {
         let stop = Refusal { code: 0, place: 0 };
-        Machine { code, numbers, limits, room, fuel: limits.fuel as u32, bindings: limits.bindings as u32, stop }
+        Machine { code, numbers, limits, room, fuel: limits.fuel as u32, bindings: limits.bindings as u32, stop, made: 0 }
     }
 
     /// Runs the program's block, whose frame has so many slots.
@@ -94,6 +99,7 @@ impl<'a> Machine<'a> {
             units: self.limits.fuel as u32 - self.fuel,
             bindings: self.limits.bindings as u32 - self.bindings,
             cells: self.room.cells.len() as u32,
+            made: self.made,
         }
     }
 
@@ -142,8 +148,18 @@ impl<'a> Machine<'a> {
     fn read(&mut self, cell: i64, place: u16) -> Ran<i64> {
         match self.room.cells[cell as usize] {
             Some(value) => Ok(value),
-            None => self.stop(UNSET, place),
+            None => {
+                self.made = self.room.makers[cell as usize];
+                self.stop(UNSET, place)
+            }
         }
+    }
+
+    /// So many more cells, made at this place.
+    fn take_cells(&mut self, many: usize, place: u16) {
+        let all = self.room.cells.len() + many;
+        self.room.cells.resize(all, None);
+        self.room.makers.resize(all, place);
     }
 
     fn define(&mut self, frame: usize, slot: u16, value: i64, place: u16) -> Ran<()> {
@@ -163,7 +179,7 @@ impl<'a> Machine<'a> {
         if size as u64 > self.limits.cells - first as u64 {
             return self.stop(CELLS, place);
         }
-        self.room.cells.resize(first + size as usize, None);
+        self.take_cells(size as usize, place);
         Ok(block_of_cells(first, size))
     }
 
@@ -325,7 +341,7 @@ impl<'a> Machine<'a> {
                 if cell as u64 == self.limits.cells {
                     return self.stop(CELLS, place);
                 }
-                self.room.cells.push(None);
+                self.take_cells(1, place);
                 self.define(frame, slot, cell as i64, place)
             }
             CommandKind::Echo(e) => {

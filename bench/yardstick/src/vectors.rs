@@ -34,7 +34,7 @@ pub fn shown(text: &[u8]) -> String {
 }
 
 /// The first line of a case of RUN: so many columns of so many bytes, then its name.
-const COLUMNS: usize = 13;
+const COLUMNS: usize = 14;
 const COLUMN_BYTES: usize = 8;
 
 /// A file's bytes, taken from the front.
@@ -88,14 +88,14 @@ pub fn run_cases() -> Vec<RunCase> {
     while !input.0.is_empty() {
         let line = input.line();
         let columns: Vec<u64> = (0..COLUMNS).map(|k| decimal(&line[k * COLUMN_BYTES..(k + 1) * COLUMN_BYTES]) as u64).collect();
-        let [follows, length, fuel, depth, bindings, cells, output, code, place, units, bound, taken, count] = columns[..] else { unreachable!() };
+        let [follows, length, fuel, depth, bindings, cells, output, code, place, units, bound, taken, count, made] = columns[..] else { unreachable!() };
         if follows == 1 {
             last = input.script(length as usize);
         }
         cases.push(RunCase {
             text: last.clone(),
             limits: Limits { fuel, depth, bindings, cells, output },
-            report: Report { code: code as u8, place: place as u16, units: units as u32, bindings: bound as u32, cells: taken as u32 },
+            report: Report { code: code as u8, place: place as u16, units: units as u32, bindings: bound as u32, cells: taken as u32, made: made as u16 },
             numbers: (0..count).map(|_| decimal(input.line())).collect(),
         });
     }

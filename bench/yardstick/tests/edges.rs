@@ -1,4 +1,4 @@
-//! Edges of the language: numbers at the ends of their range, division that rounds down, parameters of one name, blocks of cells.
+//! Edges of the language: numbers at the ends of their range, division that rounds down, parameters of one name, blocks of cells, what UNSET names.
 #![forbid(unsafe_code)]
 
 use yardstick::{Limits, Yardstick};
@@ -76,6 +76,18 @@ fn a_parameter_list_has_a_name_once() {
     gives("(([a:int] [a:int] a 1) 2)", 2);
     let text = "[FUN REC f int [f:int] 3; ECHO (f 1)]";
     assert_eq!(Yardstick::new().run(text.as_bytes(), Limits::GREATEST).code, 0);
+}
+
+#[test]
+fn unset_names_where_its_cell_was_made() {
+    let made = |text: &str| {
+        let report = Yardstick::new().run(text.as_bytes(), Limits::GREATEST);
+        (report.code, report.place, report.made)
+    };
+    assert_eq!(made("[VAR x int; ECHO x]"), (UNSET, 17, 1));
+    assert_eq!(made("[PROC p [var x:int] [ECHO x]; VAR v int; CALL p (adr v)]"), (UNSET, 26, 30));
+    assert_eq!(made("[ECHO (nth (alloc int 3) 0)]"), (UNSET, 6, 11));
+    assert_eq!(made("[ECHO (div 1 0)]"), (ZERO, 6, 0));
 }
 
 #[test]

@@ -26,7 +26,7 @@ meant (Bindings p) = stopped (limit BINDINGS) p
 meant (Output p) = stopped (limit OUTPUT) p
 meant (Range p) = stopped (error RANGE) p
 meant (Zero p) = stopped (error ZERO) p
-meant (Unset p) = stopped (error UNSET) p
+meant (Unset p q) = stopped (error (UNSET q)) p
 meant (Size p) = stopped (error SIZE) p
 meant (Index p) = stopped (error INDEX) p
 

@@ -5,13 +5,14 @@ use Rattle.language.specs.Answers.{number-of}
 use Rattle.machine.specs.Entries.{pick}
 use Rattle.machine.specs.declared.Ending.{Ending}
 use Rattle.machine.specs.declared.Ending.the-variants.{Value, Stop, NoRule}
+use Rattle.machine.specs.declared.Ending.the-variants as E
 use Rattle.machine.specs.declared.Counts.{Counts}
 use Rattle.answers.specs.declared.Answer.{Answer}
 use Rattle.answers.specs.declared.Answer.the-variants.{Done, «Type», Fuel, Depth, Cells, Bindings, Output, Range, Zero, Unset, Size, Index}
 use Rattle.answers.specs.declared.Report.{Report}
 use Rattle.answers.specs.Answers.{meant, refusal}
 
--- a stop by its number
+-- a stop by its number, for those that have one place
 unfoldable pub stopped-by : ℕ → ℕ → Answer
 stopped-by n p =
     pick (eqb n 20) (λ _. Fuel p) λ _.
@@ -21,7 +22,6 @@ stopped-by n p =
     pick (eqb n 24) (λ _. Output p) λ _.
     pick (eqb n 25) (λ _. Range p) λ _.
     pick (eqb n 26) (λ _. Zero p) λ _.
-    pick (eqb n 27) (λ _. Unset p) λ _.
     pick (eqb n 28) (λ _. Size p) λ _.
     pick (eqb n 29) (λ _. Index p) λ _.
     «Type» 0
@@ -30,6 +30,7 @@ stopped-by n p =
 abbrev pub ended : Ending → Answer
 ended (Value t x) = Done
 ended (Stop n p) = stopped-by n p
+ended (E.Unset p q) = Unset p q
 ended NoRule = «Type» 0
 
 -- an answer with the counts of a run, with so much fuel at the start

@@ -1,8 +1,8 @@
 // RUN held against cases on standard input.
 //
-// A case is a line of 128 bytes: 13 numbers in columns of 8, then a name. The numbers: 1 where a script follows and 0 where the last one is run again;
+// A case is a line of 136 bytes: 14 numbers in columns of 8, then a name. The numbers: 1 where a script follows and 0 where the last one is run again;
 // the script's length; the limits on fuel, depth, bindings, cells and output; then what is expected: the answer's number and place, the units, bindings
-// and cells taken, and how many numbers are put out. Then come the script with a line end, and a line of 24 bytes for each number.
+// and cells taken, how many numbers are put out, and UNSET's second place. Then come the script with a line end, and a line of 24 bytes for each number.
 use amounts::Amount;
 use answers::Report;
 use numerals::Read;
@@ -61,6 +61,7 @@ fn as_expected(line: &[u8], report: Report) -> bool {
         && report.bindings == count_at(line, 80)
         && report.cells == count_at(line, 88)
         && report.numbers == count_at(line, 96)
+        && answers::made_of(answer) == count_at(line, 104)
 }
 
 // The next line's number, which is expected.
@@ -91,8 +92,8 @@ fn numbers_agree(output: &[i64], count: u64) -> bool {
 
 // A case's name.
 fn say_name(line: &[u8]) {
-    if 127 <= line.len() {
-        lines::text(&line[104..127]);
+    if 135 <= line.len() {
+        lines::text(&line[112..135]);
     }
 }
 
@@ -110,6 +111,8 @@ fn say_report(report: Report) {
     lines::count(report.cells);
     lines::text(b" numbers ");
     lines::count(report.numbers);
+    lines::text(b" made at ");
+    lines::count(answers::made_of(answer));
 }
 
 // Says of a case what it came to: of each where all are to be named, else only of one that differs.
@@ -150,16 +153,16 @@ fn try_case(line: &[u8], named: bool, text: &[u8], length: usize) -> bool {
 }
 
 // The same over the reader's arrays.
-fn try_in(line: &[u8; 128], named: bool, text: &[u8; 32768], length: usize) -> bool {
+fn try_in(line: &[u8; 136], named: bool, text: &[u8; 32768], length: usize) -> bool {
     try_case(line, named, text, length)
 }
 
-fn next_script(line: &[u8; 128], text: &mut [u8; 32768], last: usize) -> usize {
+fn next_script(line: &[u8; 136], text: &mut [u8; 32768], last: usize) -> usize {
     script(line, text, last)
 }
 
-fn next_line(line: &mut [u8; 128]) -> bool {
-    io::read_full(0, line) == 128
+fn next_line(line: &mut [u8; 136]) -> bool {
+    io::read_full(0, line) == 136
 }
 
 pub fn counted(tally: Tally, agrees: bool) -> Tally {
@@ -186,7 +189,7 @@ pub fn say_tally(tally: Tally) {
 
 // Tries every case, of no more than a million, and says how many agree.
 pub fn try_all(named: bool) {
-    let mut line = [0u8; 128];
+    let mut line = [0u8; 136];
     let mut text = [0u8; 32768];
     let mut length: usize = 0;
     let mut tally = Tally { tried: 0, agree: 0 };

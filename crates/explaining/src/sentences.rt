@@ -1,5 +1,6 @@
 // The answers' names, and a sentence for each that tells a tariff's author what to change.
 use super::say_place;
+use super::say_rows;
 use answers::Answer;
 use nodes::same_name;
 use runner::Limits;
@@ -25,7 +26,7 @@ pub fn say_name(answer: Answer) {
         Answer::Output(_) => lines::text(b"OUTPUT"),
         Answer::Range(_) => lines::text(b"RANGE"),
         Answer::Zero(_) => lines::text(b"ZERO"),
-        Answer::Unset(_) => lines::text(b"UNSET"),
+        Answer::Unset(_, _) => lines::text(b"UNSET"),
         Answer::Size(_) => lines::text(b"SIZE"),
         Answer::Index(_) => lines::text(b"INDEX"),
     }
@@ -404,13 +405,17 @@ fn say_zero() {
     lines::text(b"this divides by 0: test the divisor first");
 }
 
-// A variable is read by its name, a block's element by an nth.
-fn say_unset(text: &[u8], place: usize) {
+// A variable is read by its name, a block's element by an nth; then where it was made, which may be far from there.
+fn say_unset(text: &[u8], place: usize, made: usize) {
     if mark_at(text, place) == OPENING {
-        lines::text(b"this element has no value yet: store one with vset before it is read");
+        lines::text(b"this element has no value yet: store one with vset before it is read;\n");
+        lines::text(b"its block was made");
     } else {
-        lines::text(b"this variable has no value yet: SET it before it is read");
+        lines::text(b"this variable has no value yet: SET it before it is read;\n");
+        lines::text(b"it was made");
     }
+    say_place(text, made);
+    say_rows(text, made);
 }
 
 fn say_size() {
@@ -442,7 +447,7 @@ pub fn say_sentence(text: &[u8], limits: Limits, answer: Answer) {
         Answer::Output(_) => say_output(limits.output),
         Answer::Range(_) => say_range(),
         Answer::Zero(_) => say_zero(),
-        Answer::Unset(_) => say_unset(text, place),
+        Answer::Unset(_, made) => say_unset(text, place, made as usize),
         Answer::Size(_) => say_size(),
         Answer::Index(_) => say_index(),
     }

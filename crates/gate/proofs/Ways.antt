@@ -48,7 +48,7 @@ number-done (stopped (limit BINDINGS) p) h = absurd (omega arith)
 number-done (stopped (limit OUTPUT) p) h = absurd (omega arith)
 number-done (stopped (error RANGE) p) h = absurd (omega arith)
 number-done (stopped (error ZERO) p) h = absurd (omega arith)
-number-done (stopped (error UNSET) p) h = absurd (omega arith)
+number-done (stopped (error (UNSET m)) p) h = absurd (omega arith)
 number-done (stopped (error SIZE) p) h = absurd (omega arith)
 number-done (stopped (error INDEX) p) h = absurd (omega arith)
 

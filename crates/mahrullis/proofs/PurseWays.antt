@@ -10,7 +10,7 @@ use lib.IntN.{ℤ}
 use lib.ListN.{length, getD, set, take, drop, length-append, length-drop}
 use lib.Seq.{length-take-le}
 use borrow.Author.Tests.{le-leb, lt-leb}
-use Rattle.language.specs.Answers.{Answer, done, refused, stopped, number-of, place-of}
+use Rattle.language.specs.Answers.{Answer, done, refused, stopped, number-of, place-of, made-of}
 use Rattle.language.specs.Limits.{Limits}
 use Rattle.answers.specs.declared.Report.{Report}
 use Rattle.answers.specs.Answers.{meant}
@@ -27,7 +27,7 @@ use Rattle.purse_run.specs.declared.RunBegun.{RunBegun}
 use Rattle.purse_run.specs.Meant.{refused-answer, run-outcome, RunReady, Kept, RunBegins, PurseRun}
 use Rattle.mahrullis.specs.Reports.{report-entries}
 use Rattle.mahrullis.specs.PurseReports.{pending-entries, pending-words, pending-of, credit-words, charge-words, run-words, credit-number, run-number, run-report, purses-shown, word-step, ShowInto, CreditInto, CreditBeginInto, StepInto, RunsSo, told-whole, PurseRunBeginInto, PurseRunInto}
-use Rattle.mahrullis.proofs.Tables.{six}
+use Rattle.mahrullis.proofs.Tables.{seven}
 
 -- ---- entries put one by one
 
@@ -46,9 +46,9 @@ pub five-put : (l : List ℕ) {l₁ l₂ l₃ l₄ l₅ : List ℕ} {a b c d e :
     l₅ ≡ (a ∷ b ∷ c ∷ d ∷ e ∷ []) ++ drop 5 l
 five-put l h e₁ e₂ e₃ e₄ e₅ = next 4 _ e₅ (next 3 _ e₄ (next 2 _ e₃ (next 1 _ e₂ e₁))) ∙ five l h
 
-pub six-put : (l : List ℕ) {l₁ l₂ l₃ l₄ l₅ l₆ : List ℕ} {a b c d e f : ℕ} → 6 ≤ length l → l₁ ≡ set l 0 a → l₂ ≡ set l₁ 1 b → l₃ ≡ set l₂ 2 c → l₄ ≡ set l₃ 3 d → l₅ ≡ set l₄ 4 e →
-    l₆ ≡ set l₅ 5 f → l₆ ≡ (a ∷ b ∷ c ∷ d ∷ e ∷ f ∷ []) ++ drop 6 l
-six-put l h e₁ e₂ e₃ e₄ e₅ e₆ = next 5 _ e₆ (next 4 _ e₅ (next 3 _ e₄ (next 2 _ e₃ (next 1 _ e₂ e₁)))) ∙ six l h
+pub seven-put : (l : List ℕ) {l₁ l₂ l₃ l₄ l₅ l₆ l₇ : List ℕ} {a b c d e f g : ℕ} → 7 ≤ length l → l₁ ≡ set l 0 a → l₂ ≡ set l₁ 1 b → l₃ ≡ set l₂ 2 c → l₄ ≡ set l₃ 3 d →
+    l₅ ≡ set l₄ 4 e → l₆ ≡ set l₅ 5 f → l₇ ≡ set l₆ 6 g → l₇ ≡ (a ∷ b ∷ c ∷ d ∷ e ∷ f ∷ g ∷ []) ++ drop 7 l
+seven-put l h e₁ e₂ e₃ e₄ e₅ e₆ e₇ = next 6 _ e₇ (next 5 _ e₆ (next 4 _ e₅ (next 3 _ e₄ (next 2 _ e₃ (next 1 _ e₂ e₁))))) ∙ seven l h
 
 -- ---- what is put down for an answer
 
@@ -82,13 +82,18 @@ pub charge-some : (place p : ℕ) (r : Report) (l m : List ℕ) → refused-answ
     m ≡ charge-words place p r ++ drop pending-entries l
 charge-some place p r l m e x = x ∙ ap (λ (w : List ℕ). w ++ drop pending-entries l) (some-words p (r .units) place (r .numbers) (meant (r .answer)) e)
 
-pub said-put : (said : Report) (l m : List ℕ) (code place : ℕ) → code ≡ number-of (meant (said .answer)) → place ≡ place-of (meant (said .answer)) →
-    m ≡ (code ∷ place ∷ said .units ∷ said .bindings ∷ said .cells ∷ said .numbers ∷ []) ++ drop report-entries l →
+-- a report's entries: what the answer gives, and the counts
+abbrev entries : Report → (code place made : ℕ) → List ℕ
+entries said code place made = code ∷ place ∷ said .units ∷ said .bindings ∷ said .cells ∷ said .numbers ∷ made ∷ []
+
+pub said-put : (said : Report) (l m : List ℕ) (code place made : ℕ) → code ≡ number-of (meant (said .answer)) → place ≡ place-of (meant (said .answer)) →
+    made ≡ made-of (meant (said .answer)) →
+    m ≡ (code ∷ place ∷ said .units ∷ said .bindings ∷ said .cells ∷ said .numbers ∷ made ∷ []) ++ drop report-entries l →
     (code ≡ run-number (run.Ran said)) × (m ≡ run-report (run.Ran said) ++ drop report-entries l)
-said-put said l m code place e f x = (
+said-put said l m code place made e f g x = (
   e,
-  x ∙ ap (λ (c : ℕ). (c ∷ place ∷ said .units ∷ said .bindings ∷ said .cells ∷ said .numbers ∷ []) ++ drop report-entries l) e ∙
-      ap (λ (q : ℕ). (number-of (meant (said .answer)) ∷ q ∷ said .units ∷ said .bindings ∷ said .cells ∷ said .numbers ∷ []) ++ drop report-entries l) f,
+  x ∙ ap (λ (c : ℕ). entries said c place made ++ drop report-entries l) e ∙ ap (λ (q : ℕ). entries said (number-of (meant (said .answer))) q made ++ drop report-entries l) f ∙
+      ap (λ (k : ℕ). entries said (number-of (meant (said .answer))) (place-of (meant (said .answer))) k ++ drop report-entries l) g,
 )
 
 -- ---- the first 64 entries of a table of purses

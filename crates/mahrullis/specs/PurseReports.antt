@@ -57,8 +57,8 @@ run-number run.Purse = refusal-number PURSE
 run-number run.Journal = refusal-number JOURNAL
 run-number run.Full = refusal-number FULL
 
-abbrev pub refusal-report : ℕ → List ℕ  -- 34 to 36 have no place and no counts
-refusal-report n = n ∷ 0 ∷ 0 ∷ 0 ∷ 0 ∷ 0 ∷ []
+abbrev pub refusal-report : ℕ → List ℕ  -- 34 to 36 have no places and no counts
+refusal-report n = n ∷ 0 ∷ 0 ∷ 0 ∷ 0 ∷ 0 ∷ 0 ∷ []
 
 abbrev pub run-report : PurseAnswer → List ℕ
 run-report (run.Ran r) = reported (said r)

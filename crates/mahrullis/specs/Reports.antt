@@ -4,21 +4,21 @@ use mathlib.Core.List.{List, [], _∷_, _++_}
 use Prim.Native.Nat.{ℕ, _≤_, _<_, min}
 use lib.IntN.{ℤ}
 use lib.ListN.{length, drop}
-use Rattle.language.specs.Answers.{TABLE, refused, number-of, place-of}
+use Rattle.language.specs.Answers.{TABLE, refused, number-of, place-of, made-of}
 use Rattle.language.specs.Limits.{Limits}
 use Rattle.language.specs.Promises.{Lent, untouched, Checked, Check, Told, told, Ran, Run}
 use Rattle.language.specs.Rules.{start}
 use Rattle.language.specs.Words.{nameAt}
 
 abbrev pub report-entries : ℕ
-report-entries = 6
+report-entries = 7
 
 abbrev pub part-entries : ℕ
 part-entries = 2
 
 -- a report in numbers
 abbrev pub reported : Told → List ℕ
-reported t = number-of (t .answer) ∷ place-of (t .answer) ∷ t .units ∷ t .bindings ∷ t .cells ∷ t .numbers ∷ []
+reported t = number-of (t .answer) ∷ place-of (t .answer) ∷ t .units ∷ t .bindings ∷ t .cells ∷ t .numbers ∷ made-of (t .answer) ∷ []
 
 -- r is the answer's number; the report stands in the table's first entries, and the rest is as it was
 pub record Put (t : Told) (report : List ℕ) (r : ℕ) (report′ : List ℕ) : Type 0 where

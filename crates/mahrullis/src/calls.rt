@@ -1,5 +1,6 @@
 // Purses as C functions: one step a call for a journal that a cut may tear, and all steps in one call for a journal in memory.
 use answers::Report;
+use answers::made_of;
 use answers::number_of;
 use answers::place_of;
 use purse_run::PurseAnswer;
@@ -36,7 +37,7 @@ const FULL: u64 = 36;
 // The entries of the tables lent for purses, for a report, and for what is pending.
 const PURSE_ENTRIES: usize = 64;
 
-const REPORT_ENTRIES: usize = 6;
+const REPORT_ENTRIES: usize = 7;
 
 const PENDING_ENTRIES: usize = 5;
 
@@ -188,8 +189,8 @@ fn put_run(pending: &mut [u64], answer: PurseAnswer, place: usize, p: u64)
     }
 }
 
-// Puts six numbers down.
-fn put_six(
+// Puts seven numbers down.
+fn put_seven(
     report: &mut [u64],
     code: u64,
     place: u64,
@@ -197,9 +198,10 @@ fn put_six(
     bindings: u64,
     cells: u64,
     numbers: u64,
+    made: u64,
 )
     requires { ⌜ report-entries ≤ length (now report) ⌝ }
-    ensures { λ _. ⌜ now (report .exit) ≡ (code ∷ place ∷ units ∷ bindings ∷ cells ∷ numbers ∷ []) ++ drop report-entries (now (report .entry)) ⌝ }
+    ensures { λ _. ⌜ now (report .exit) ≡ (code ∷ place ∷ units ∷ bindings ∷ cells ∷ numbers ∷ made ∷ []) ++ drop report-entries (now (report .entry)) ⌝ }
 {
     put(report, 0, code);
     put(report, 1, place);
@@ -207,6 +209,7 @@ fn put_six(
     put(report, 3, bindings);
     put(report, 4, cells);
     put(report, 5, numbers);
+    put(report, 6, made);
 }
 
 fn put_said(report: &mut [u64], said: Report) -> u64
@@ -215,7 +218,7 @@ fn put_said(report: &mut [u64], said: Report) -> u64
 {
     let answer = said.answer;
     let code = number_of(answer);
-    put_six(
+    put_seven(
         report,
         code,
         place_of(answer),
@@ -223,6 +226,7 @@ fn put_said(report: &mut [u64], said: Report) -> u64
         said.bindings,
         said.cells,
         said.numbers,
+        made_of(answer),
     );
     code
 }
@@ -231,7 +235,7 @@ fn put_refusal(report: &mut [u64], code: u64) -> u64
     requires { ⌜ report-entries ≤ length (now report) ⌝ }
     ensures { λ r. ⌜ (r ≡ code) × (now (report .exit) ≡ refusal-report code ++ drop report-entries (now (report .entry))) ⌝ }
 {
-    put_six(report, code, 0, 0, 0, 0, 0);
+    put_seven(report, code, 0, 0, 0, 0, 0, 0);
     code
 }
 

@@ -4,6 +4,7 @@ mod calls; // calls.rt: purses and their journal
 
 use answers::Report;
 use answers::answer_to;
+use answers::made_of;
 use answers::number_of;
 use answers::place_of;
 use gate::run;
@@ -22,8 +23,8 @@ ghost use Rattle.mahrullis.specs.Reports.{report-entries, part-entries, 
 // The answer TABLE, which needs no report.
 const TABLE: u64 = 3;
 
-// A report: the answer's number and place, the units, bindings and cells taken, and how many numbers were put out.
-const REPORT_ENTRIES: usize = 6;
+// A report: the answer's number and place, the units, bindings and cells taken, how many numbers were put out, and UNSET's second place.
+const REPORT_ENTRIES: usize = 7;
 
 // A part of a text: its offset and its length.
 const PART_ENTRIES: usize = 2;
@@ -41,10 +42,11 @@ fn put_report(report: &mut [u64], said: Report) -> u64
     report[3] = said.bindings;
     report[4] = said.cells;
     report[5] = said.numbers;
+    report[6] = made_of(answer);
     code
 }
 
-// CHECK. A report table under six entries is TABLE, and nothing is changed.
+// CHECK. A report table under seven entries is TABLE, and nothing is changed.
 #[no_mangle]
 pub extern "C" fn mahrullis_check(
     text: &[u8],
@@ -73,7 +75,7 @@ pub extern "C" fn mahrullis_check(
     put_report(report, said)
 }
 
-// RUN. A report table under six entries is TABLE, and nothing is changed.
+// RUN. A report table under seven entries is TABLE, and nothing is changed.
 #[no_mangle]
 pub extern "C" fn mahrullis_run(
     text: &[u8],

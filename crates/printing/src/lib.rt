@@ -6,6 +6,9 @@ const FIRST_REFUSAL: u64 = 1;
 
 const LAST_REFUSAL: u64 = 10;
 
+// The one answer that names two places.
+const UNSET: u64 = 27;
+
 // The most numbers that a run may put out.
 const MOST_NUMBERS: usize = 4096;
 
@@ -28,6 +31,11 @@ fn print_end(number: u64, place: u64, report: Report) {
     lines::count(report.bindings);
     lines::text(b" cells ");
     lines::count(report.cells);
+    if number == UNSET {
+        let answer = report.answer;
+        lines::text(b" made at ");
+        lines::count(answers::made_of(answer));
+    }
     lines::text(b"\n");
 }
 

@@ -73,7 +73,7 @@ up-to-last (stopped (limit BINDINGS) q) e = refl
 up-to-last (stopped (limit OUTPUT) q) e = refl
 up-to-last (stopped (error RANGE) q) e = refl
 up-to-last (stopped (error ZERO) q) e = refl
-up-to-last (stopped (error UNSET) q) e = refl
+up-to-last (stopped (error (UNSET m)) q) e = refl
 up-to-last (stopped (error SIZE) q) e = refl
 up-to-last (stopped (error INDEX) q) e = refl
 

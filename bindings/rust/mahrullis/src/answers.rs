@@ -170,6 +170,8 @@ pub enum End {
         stop: Stop,
         /// The byte of the text at which it shows.
         place: usize,
+        /// With [`Stop::Unset`], the byte of the VAR or alloc that made the cell; else none.
+        made: Option<usize>,
     },
 }
 
@@ -177,7 +179,8 @@ impl fmt::Display for End {
     fn fmt(&self, f: &mut fmt::Formatter<'_>) -> fmt::Result {
         match self {
             End::Done => f.write_str("done"),
-            End::Stopped { stop, place } => write!(f, "stopped {} at {}: {}", stop.number(), place, stop),
+            End::Stopped { stop, place, made: None } => write!(f, "stopped {} at {place}: {stop}", stop.number()),
+            End::Stopped { stop, place, made: Some(made) } => write!(f, "stopped {} at {place}: {stop}, made at {made}", stop.number()),
         }
     }
 }

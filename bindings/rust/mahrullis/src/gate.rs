@@ -35,13 +35,14 @@ pub struct Report<'a> {
 }
 
 /// What an answer says: the text was accepted and, in a run, so ended; or it was refused.
-pub(crate) fn end_of(number: u64, place: u64) -> Result<End, Refusal> {
+pub(crate) fn end_of(number: u64, place: u64, made: u64) -> Result<End, Refusal> {
     let place = place as usize;
     if number == 0 {
         return Ok(End::Done);
     }
     if let Some(stop) = Stop::from_number(number) {
-        return Ok(End::Stopped { stop, place });
+        let made = (stop == Stop::Unset).then_some(made as usize);
+        return Ok(End::Stopped { stop, place, made });
     }
     match Code::from_number(number) {
         Some(code) => Err(Refusal { code, place }),
@@ -86,7 +87,8 @@ impl Gate {
     pub fn check(&mut self, text: &[u8]) -> Result<Tree<'_>, Refusal> {
         let mut report = [0; raw::REPORT_ENTRIES];
         raw::check(text, self.lend().0, &mut report);
-        end_of(report[0], report[1])?;
+        let [number, place, .., made] = report;
+        end_of(number, place, made)?;
         Ok(Tree::in_table(&self.tree))
     }
 
@@ -97,8 +99,8 @@ impl Gate {
         let mut report = [0; raw::REPORT_ENTRIES];
         let (common, running) = self.lend();
         raw::run(text, limits, common, running, &mut report);
-        let [number, place, units, bindings, cells, numbers] = report;
-        let end = end_of(number, place)?;
+        let [number, place, units, bindings, cells, numbers, made] = report;
+        let end = end_of(number, place, made)?;
         Ok(Report { end, units, bindings, cells, numbers: &self.output[..numbers as usize], tree: Tree::in_table(&self.tree) })
     }
 }

@@ -183,8 +183,8 @@ impl Purses {
         if let Some(refusal) = refused(number) {
             return Err(refusal);
         }
-        let [number, place, units, bindings, cells, _] = report;
-        let end = end_of(number, place).map_err(PurseRefusal::Text)?;
+        let [number, place, units, bindings, cells, _, made] = report;
+        let end = end_of(number, place, made).map_err(PurseRefusal::Text)?;
         let steps = Steps { pending, next: 0, journal: &mut self.journal, held: self.gate.held(), bank: &mut self.bank };
         Ok(PurseRun { end, units, bindings, cells, steps })
     }

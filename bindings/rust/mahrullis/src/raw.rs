@@ -24,8 +24,8 @@ pub const WAITING_ENTRIES: usize = 8_192;
 pub const ENTRIES_A_BINDING: usize = 2;
 /// Entries for each cell that the limit admits.
 pub const ENTRIES_A_CELL: usize = 2;
-/// Entries of a report: the answer, its place, units, bindings and cells taken, and numbers put out.
-pub const REPORT_ENTRIES: usize = 6;
+/// Entries of a report: the answer, its place, units, bindings and cells taken, numbers put out, and the place that made UNSET's cell, 0 for every other answer.
+pub const REPORT_ENTRIES: usize = 7;
 /// Entries of a part: a name's offset and its length.
 pub const PART_ENTRIES: usize = 2;
 

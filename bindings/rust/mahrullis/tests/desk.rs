@@ -16,7 +16,11 @@ fn done(units: u64, bindings: u64, cells: u64, numbers: &[i64]) -> Expected<'_> 
 }
 
 fn stopped(stop: Stop, place: usize, units: u64, bindings: u64, cells: u64) -> Expected<'static> {
-    Ok((End::Stopped { stop, place }, units, bindings, cells, &[]))
+    Ok((End::Stopped { stop, place, made: None }, units, bindings, cells, &[]))
+}
+
+fn unset(place: usize, made: usize, units: u64, bindings: u64, cells: u64) -> Expected<'static> {
+    Ok((End::Stopped { stop: Stop::Unset, place, made: Some(made) }, units, bindings, cells, &[]))
 }
 
 fn refused(code: Code, place: usize) -> Expected<'static> {
@@ -43,7 +47,7 @@ fn scripts_of_the_desk() {
     expect(gate, b"[ECHO (add 1 2)]", MOST.with_fuel(3), stopped(Stop::Fuel, 13, 3, 0, 0));
     expect(gate, b"[ECHO 1]", MOST.with_depth(1), stopped(Stop::Depth, 6, 2, 0, 0));
     expect(gate, b"[CONST x int 0; SET x 42]", MOST, refused(Code::Type, 16));
-    expect(gate, b"[VAR x int; ECHO x]", MOST, stopped(Stop::Unset, 17, 3, 1, 1));
+    expect(gate, b"[VAR x int; ECHO x]", MOST, unset(17, 1, 3, 1, 1));
     expect(gate, b"[ECHO (div 1 0)]", MOST, stopped(Stop::Zero, 6, 4, 0, 0));
     expect(gate, b"[ECHO (div -7 2)]", MOST, done(4, 0, 0, &[-4]));
     expect(gate, b"[]", MOST, refused(Code::Syntax, 1));
@@ -64,6 +68,17 @@ fn scripts_of_the_desk() {
 }
 
 #[test]
+fn unset_names_its_cells_maker() {
+    let gate = &mut Gate::new();
+    let passed_on = b"[PROC p [var x:int] [ECHO x]; VAR u int; VAR v int; SET u 1; CALL p (adr u); CALL p (adr v)]";
+    let ran = gate.run(passed_on, MOST).unwrap();
+    assert_eq!((ran.end, ran.numbers), (End::Stopped { stop: Stop::Unset, place: 26, made: Some(41) }, &[1][..]));
+    // a cell of a block is made by its alloc, wherever the block goes
+    let block = b"[FUN f (vec int) [n:int] (alloc int n); CONST b (vec int) (f 2); ECHO (nth b 1)]";
+    expect(gate, block, MOST, unset(70, 25, 11, 3, 2));
+}
+
+#[test]
 fn blocks_of_cells() {
     let gate = &mut Gate::new();
     let block = b"[CONST b (vec int) (alloc int 3); ECHO (len b); ECHO (nth (vset b 2 7) 2); ECHO (nth b 2)]";
@@ -73,7 +88,7 @@ fn blocks_of_cells() {
     expect(gate, b"[ECHO (len (alloc int -1))]", MOST.with_cells(0), stopped(Stop::Size, 11, 4, 0, 0));
     expect(gate, b"[ECHO (nth (alloc int 3) 3)]", MOST, stopped(Stop::Index, 6, 5, 0, 3));
     expect(gate, b"[ECHO (len (vset (alloc int 3) -1 0))]", MOST, stopped(Stop::Index, 11, 7, 0, 3));
-    expect(gate, b"[ECHO (nth (alloc int 3) 0)]", MOST, stopped(Stop::Unset, 6, 5, 0, 3));
+    expect(gate, b"[ECHO (nth (alloc int 3) 0)]", MOST, unset(6, 11, 5, 0, 3));
     expect(gate, b"[ECHO (len (vset (alloc int 1) 9 (div 1 0)))]", MOST, stopped(Stop::Zero, 33, 9, 0, 1));
     expect(gate, b"[CONST v (vec (int -> int)) y; ECHO 1]", MOST, refused(Code::Type, 9));
     expect(gate, b"[ECHO (len (alloc (int -> int) 1))]", MOST, refused(Code::Type, 11));
@@ -174,7 +189,9 @@ fn numbers_and_words_of_the_answers() {
     let refusal = Refusal { code: Code::Syntax, place: 1 };
     let error: &dyn Error = &refusal;
     assert_eq!(error.to_string(), "refused 7 at 1: no program goes on like this");
-    assert_eq!(End::Stopped { stop: Stop::Zero, place: 6 }.to_string(), "stopped 26 at 6: this divides by 0");
+    assert_eq!(End::Stopped { stop: Stop::Zero, place: 6, made: None }.to_string(), "stopped 26 at 6: this divides by 0");
+    let unset = End::Stopped { stop: Stop::Unset, place: 17, made: Some(1) };
+    assert_eq!(unset.to_string(), "stopped 27 at 17: this variable or element is read before it is set, made at 1");
     assert_eq!(End::Done.to_string(), "done");
 }
 

@@ -46,14 +46,15 @@ fn code_and_place(refusal: Refusal) -> (u64, u64) {
     (refusal.code.number(), refusal.place as u64)
 }
 
-fn end(end: End) -> (u64, u64) {
+/// The answer's number, its place, and where UNSET's cell was made.
+fn end(end: End) -> (u64, u64, u64) {
     match end {
-        End::Done => (0, 0),
-        End::Stopped { stop, place } => (stop.number(), place as u64),
+        End::Done => (0, 0, 0),
+        End::Stopped { stop, place, made } => (stop.number(), place as u64, made.unwrap_or(0) as u64),
     }
 }
 
-/// A case: 13 columns of 8 bytes and a name in 128 bytes, then the script, if it is a new one, and a line of 24 bytes for each number.
+/// A case: 14 columns of 8 bytes and a name in 136 bytes, then the script, if it is a new one, and a line of 24 bytes for each number.
 fn run_cases(program: &str) {
     let (cases, count_of_cases) = cases_of(program);
     let mut input = Input(&cases);
@@ -61,15 +62,15 @@ fn run_cases(program: &str) {
     let mut gate = Gate::new();
     let mut tried = 0;
     while !input.0.is_empty() {
-        let line = input.line(128);
-        let columns: Vec<u64> = line[..104].chunks(8).map(|column| decimal(column) as u64).collect();
-        let [follows, length, fuel, depth, bindings, cells, output, code, place, units, bound, celled, count] = columns[..] else { unreachable!() };
+        let line = input.line(136);
+        let columns: Vec<u64> = line[..112].chunks(8).map(|column| decimal(column) as u64).collect();
+        let [follows, length, fuel, depth, bindings, cells, output, code, place, units, bound, celled, count, made] = columns[..] else { unreachable!() };
         if follows == 1 {
             let script = input.line(length as usize + 1);
             text = script;
         }
         let numbers: Vec<i64> = (0..count).map(|_| decimal(input.line(24))).collect();
-        let named = format!("{program} {tried}: {}", String::from_utf8_lossy(&line[104..]).trim_end());
+        let named = format!("{program} {tried}: {}", String::from_utf8_lossy(&line[112..]).trim_end());
         let limits = Limits::new(fuel, depth, bindings, cells, output);
         let (ended, tree) = match gate.run(text, limits) {
             Ok(report) => {
@@ -77,9 +78,9 @@ fn run_cases(program: &str) {
                 assert_eq!(report.numbers, numbers, "{named}");
                 (end(report.end), Some(report.tree.words().to_vec()))
             }
-            Err(refusal) => (code_and_place(refusal), None),
+            Err(refusal) => ((refusal.code.number(), refusal.place as u64, 0), None),
         };
-        assert_eq!(ended, (code, place), "{named}");
+        assert_eq!(ended, (code, place, made), "{named}");
         // CHECK knows no limits; else it accepts what RUN ran, with the same tree, and refuses what RUN refused
         if code != 2 {
             match gate.check(text) {

@@ -1,6 +1,6 @@
 -- Written by tools/prove from Proof.tmpl.
 use borrow.Author.Needs.{needs}
-use Rattle.mahrullis.proofs.Tables.{second, third, fourth, fifth, sixth, report-put}
+use Rattle.mahrullis.proofs.Tables.{second, third, fourth, fifth, sixth, seventh, report-put}
 use Rattle.mahrullis.proofs.put_report.Statement.{statement}
 use Rattle.mahrullis.proofs.put_report.Tie as tie
 
@@ -28,14 +28,20 @@ slice-write-report-5 c = fifth (c .before .before .before .args .report .now) (c
 slice-write-report-6 : tie.Need-slice-write-report-6
 slice-write-report-6 c = sixth (c .before .before .before .args .report .now) (c .before .before .before .pre) (c .before .number-of .result) (c .place-of .result) (c .before .before .before .args .said .units) (c .before .before .before .args .said .bindings) (c .before .before .before .args .said .cells)
 
+made-of-requires : tie.Need-made-of-requires
+made-of-requires c κs = search needs
+
+slice-write-report-7 : tie.Need-slice-write-report-7
+slice-write-report-7 c = seventh (c .before .before .before .before .args .report .now) (c .before .before .before .before .pre) (c .before .before .number-of .result) (c .before .place-of .result) (c .before .before .before .before .args .said .units) (c .before .before .before .before .args .said .bindings) (c .before .before .before .before .args .said .cells) (c .before .before .before .before .args .said .numbers)
+
 same-length : tie.Need-same-length
 same-length c = search needs
 
 returns : tie.Need-returns
 returns c =
     record {
-      answers = c .before .number-of .ensures;
-      holds = report-put (c .before .before .before .args .report .now) (c .before .before .before .args .said) (c .before .before .before .pre) (c .before .number-of .ensures) (c .place-of .ensures);
+      answers = c .before .before .number-of .ensures;
+      holds = report-put (c .before .before .before .before .args .report .now) (c .before .before .before .before .args .said) (c .before .before .before .before .pre) (c .before .before .number-of .ensures) (c .before .place-of .ensures) (c .made-of .ensures);
     }
 
 pub put-report-spec : {M : Type 1} → statement M
@@ -50,5 +56,7 @@ put-report-spec =
     slice-write-report-4
     slice-write-report-5
     slice-write-report-6
+    made-of-requires
+    slice-write-report-7
     same-length
     returns)

@@ -213,15 +213,19 @@ impl Tables {
         self.tree.accept(count);
     }
 
-    /// A report of no run: four zeros. Of a run: within the limits, and a limit stop has reached its limit.
+    /// A report of no run: no counts. Of a run: within the limits, and a limit stop has reached its limit. UNSET's second place is a VAR's or an alloc's.
     fn expect_report(&mut self, answer: u64, text: &[u8], limits: Option<Limits>) -> usize {
-        let &[code, place, units, bindings, cells, numbers] = self.report.now() else { unreachable!() };
+        let &[code, place, units, bindings, cells, numbers, made] = self.report.now() else { unreachable!() };
         self.report.accept(raw::REPORT_ENTRIES);
         assert_eq!(code, answer);
         match answer {
             0..=3 => assert_eq!(place, 0),
             7 => assert!(place as usize <= text.len()),
             _ => assert!((place as usize) < text.len()),
+        }
+        match answer {
+            27 => assert!(matches!(text[made as usize], b'V' | b'('), "made at {made}"),
+            _ => assert_eq!(made, 0),
         }
         match limits {
             Some(limits) if answer == 0 || answer >= 20 => {

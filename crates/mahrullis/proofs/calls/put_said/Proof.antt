@@ -10,15 +10,18 @@ number-of-requires c κs = search needs
 place-of-requires : tie.Need-place-of-requires
 place-of-requires c κs = search needs
 
-put-six-requires : tie.Need-put-six-requires
-put-six-requires c κs = search needs
+made-of-requires : tie.Need-made-of-requires
+made-of-requires c κs = search needs
+
+put-seven-requires : tie.Need-put-seven-requires
+put-seven-requires c κs = search needs
 
 same-length : tie.Need-same-length
 same-length c = search needs
 
 returns : tie.Need-returns
-returns c = said-put (c .before .before .before .before .before .before .before .args .said) (c .before .before .before .before .before .before .before .args .report .now) _ _ _ (c .before .before .before .before .before .number-of .ensures) (c .before .before .before .place-of .ensures) (c .before .before .put-six .ensures)
+returns c = said-put (c .before .before .before .before .before .before .before .before .args .said) (c .before .before .before .before .before .before .before .before .args .report .now) _ _ _ _ (c .before .before .before .before .before .before .number-of .ensures) (c .before .before .before .before .place-of .ensures) (c .before .before .before .made-of .ensures) (c .before .before .put-seven .ensures)
 
 pub put-said-spec : {M : Type 1} → statement M
 put-said-spec =
-    tie.close (tie.spec number-of-requires place-of-requires put-six-requires same-length returns)
+    tie.close (tie.spec number-of-requires place-of-requires made-of-requires put-seven-requires same-length returns)
