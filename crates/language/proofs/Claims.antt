@@ -13,12 +13,12 @@ use Rattle.language.specs.Grammar.{BLOCK, Reads}
 use Rattle.language.specs.Levels.{levels, deepest}
 use Rattle.language.specs.Reading.{Within, Reading, a-program}
 use Rattle.language.specs.Typing.{Typable}
-use Rattle.language.specs.Rules.{stop, no-rule, Outcome, ok, halt, bind, need, within, level, run}
+use Rattle.language.specs.Rules.{stop, no-rule, Outcome, ok, halt, bind, need, unless-returned, within, level, run}
 use Rattle.language.specs.Outcome.{end-of}
 use Rattle.language.specs.Promises.{Verdict, typed}
-use Rattle.language.specs.Claims.{AcceptedExactly, OneVerdict, OneTree, OneLevels, TreeFits, InTextOrder, TypedOrRefused, UniqueTypes, Levels128, NoRule, NeverStuck, EndsByTheTable, SameUnderLargerLimits, NumbersBegin, CountsInLimits, LimitIsUsedUp, UnsetNamesItsCell, WhileRule, NoRuleIsReached, OneCheck, OneRun, DeskHolds, NothingGivenBack, CheckCarriesNothingOver, RunCarriesNothingOver, RoundsDown, AllocIsFresh, BlocksApart, StoresGoToCells}
+use Rattle.language.specs.Claims.{AcceptedExactly, OneVerdict, OneTree, OneLevels, TreeFits, InTextOrder, TypedOrRefused, UniqueTypes, UniqueFlows, Levels128, NoRule, NeverStuck, EndsByTheTable, SameUnderLargerLimits, NumbersBegin, CountsInLimits, LimitIsUsedUp, UnsetNamesItsCell, WhileRule, NoRuleIsReached, NoRuleForReturns, OneCheck, OneRun, DeskHolds, NothingGivenBack, CheckCarriesNothingOver, RunCarriesNothingOver, RoundsDown, AllocIsFresh, BlocksApart, StoresGoToCells}
 use Rattle.language.proofs.reading.Shown.{one-tree, levels-once, room, in-text-order}
-use Rattle.language.proofs.typing.Unique.{unique-types}
+use Rattle.language.proofs.typing.Unique.{unique-types, unique-flows}
 use Rattle.language.proofs.typing.Judged.{one-verdict}
 use Rattle.language.proofs.typing.Levels128.{types-fit-128}
 use Rattle.language.proofs.typing.Depths.{fits-64}
@@ -71,6 +71,9 @@ unique-types-claim = unique-types
 pub levels-128 : Levels128
 levels-128 b w = types-fit-128 b (fits-64 b w)
 
+pub unique-flows-claim : UniqueFlows
+unique-flows-claim = unique-flows
+
 typed-of : {s : List ℕ} {b : Block} → Verdict s (fine b) → Typable b
 typed-of (typed h t) = t
 
@@ -109,6 +112,10 @@ rounds-down-claim = rounds-down
 pub no-rule-is-reached : NoRuleIsReached
 unfolding level bind need within meaning
 no-rule-is-reached = tt
+
+pub no-rule-for-returns : NoRuleForReturns
+unfolding level bind need unless-returned within meaning
+no-rule-for-returns = (tt, tt)
 
 pub one-check-claim : OneCheck
 one-check-claim = one-check

@@ -3,6 +3,7 @@ pub mod Descent
 pub mod Reader
 pub mod Bounds
 pub mod Standing
+pub mod Kinds
 pub mod Complete
 pub mod Sound
 pub mod First

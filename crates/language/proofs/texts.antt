@@ -4,4 +4,5 @@ pub mod Afresh
 pub mod Tables
 pub mod Desk
 pub mod Worked
+pub mod Returning
 pub mod Blocks

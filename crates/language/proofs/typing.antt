@@ -4,5 +4,6 @@ pub mod Nesting
 pub mod SameType
 pub mod Unique
 pub mod Judged
+pub mod Rows
 pub mod Levels128
 pub mod Depths

@@ -1,7 +1,7 @@
 -- What is claimed of the language, each claim as a type with a sentence; proofs/Claims.antt proves each.
-use Rattle.language.specs.Library.{_≡_, _↔_, _⊎_, ℕ, zero, suc, _+_, _≤_, ℤ, true, List, [], _∷_, _++_, map, length, some, _<_, pos, natAbs, _+ℤ_, _*ℤ_, nonNeg}
+use Rattle.language.specs.Library.{_≡_, _↔_, _⊎_, ℕ, zero, suc, _+_, _≤_, ℤ, true, List, [], _∷_, _++_, map, length, Option, some, _<_, pos, natAbs, _+ℤ_, _*ℤ_, nonNeg}
 use lib.ListN.{take}
-use Rattle.language.specs.Syntax.{Name, at, TypeTree, Expr, num, name, if-expr, and, or, app, abs, alloc, nth-expr, len, vset, ExprP, val, adr, last, Def, var, Stat, echo, set, if-stat, while, call, Block, block}
+use Rattle.language.specs.Syntax.{Name, at, TypeTree, int, arg, Expr, num, name, if-expr, and, or, app, abs, alloc, nth-expr, len, vset, one-expr, ExprP, val, adr, last, def-then, fun-block, Def, var, Stat, echo, set, if-stat, while, call, return, Block, block}
 use Rattle.language.specs.Bytes.{bytesOf}
 use Rattle.language.specs.Answers.{Refusal, FUEL, DEPTH, CELLS, BINDINGS, OUTPUT, RANGE, ZERO, UNSET, SIZE, INDEX, Stop, limit, error, done, stopped, Result, fine}
 use Rattle.language.specs.Numbers.{quotient}
@@ -10,11 +10,11 @@ use Rattle.language.specs.Grammar.{BLOCK, Reads}
 use Rattle.language.specs.Table.{none, shapeBlock, Node, node, enc, table}
 use Rattle.language.specs.Levels.{levels, deepest}
 use Rattle.language.specs.Reading.{Opens, Within, Reading}
-use Rattle.language.specs.Types.{Ty, base, fn, vec-of, Tys, tnil, tcons, Ctx}
-use Rattle.language.specs.Typing.{HasE, Typable}
-use Rattle.language.specs.Order.{JudgedNode, expr-node, adr-node, vec-node, param-node, single-node, def-node, stat-node, nodes-block, TypeRefused}
+use Rattle.language.specs.Types.{Ty, base, fn, vec-of, Tys, tnil, tcons, Ctx, Flow, never, may, always}
+use Rattle.language.specs.Typing.{HasE, HasB, HasS, Typable}
+use Rattle.language.specs.Order.{JudgedNode, expr-node, adr-node, vec-node, param-node, single-node, def-node, stat-node, followed-node, block-node, prog-node, nodes-prog, TypeRefused}
 use Rattle.language.specs.Limits.{Limits, greatest-limits, _⊑_, Admitted}
-use Rattle.language.specs.Rules.{Val, inA, inB, Env, bound, State, stop, no-rule, Outcome, ok, halt, bind, need, branch, enter, look, nth, fresh, as-truth, Level, in-block, alloc-rule, expr-rule, arg-rule, def-rule, stat-rule, level, run}
+use Rattle.language.specs.Rules.{Val, inA, inB, Env, bound, State, stop, no-rule, Outcome, ok, halt, bind, need, unless-returned, branch, enter, look, nth, fresh, as-truth, Level, in-block, alloc-rule, expr-rule, arg-rule, def-rule, stat-rule, level, run}
 use Rattle.language.specs.Outcome.{state-of, end-of}
 use Rattle.language.specs.Promises.{Verdict, text-bytes, tree-words, Lent, tree-table, large-enough, Checked, Check, Ran, all-large, Run}
 use Rattle.language.specs.Desk.{AllHold, desk}
@@ -64,6 +64,10 @@ TypedOrRefused = (b : Block) →
 abbrev pub UniqueTypes : Type 0
 UniqueTypes = (Γ : Ctx) (e : Expr) (t u : Ty) → HasE Γ e t → HasE Γ e u → t ≡ u
 
+-- A block returns in at most one way: never, or may or always with one type.
+abbrev pub UniqueFlows : Type 0
+UniqueFlows = (Γ : Ctx) (b : Block) (f g : Flow) → HasB Γ b f → HasB Γ b g → f ≡ g
+
 -- a level is opened: one is left for it, and the parts fit the others
 abbrev pub Opened : ℕ → (ℕ → Type 0) → Type 0
 Opened zero parts = ⊥
@@ -80,12 +84,18 @@ abbrev mutual
   TysFit tnil n = Unit {0}
   TysFit (tcons t ts) n = TyFits t n × TysFit ts n
 
+-- what is returned is of no more than n levels
+abbrev pub FlowFits : Flow → ℕ → Type 0
+FlowFits never n = Unit {0}
+FlowFits (may t) n = TyFits t n
+FlowFits (always t) n = TyFits t n
+
 -- every node of a list is so
 pub data AllNodes (P : JudgedNode → Type 0) : List JudgedNode → Type 0 where
   no-node : AllNodes P []
   one-more : {n : JudgedNode} {l : List JudgedNode} → P n → AllNodes P l → AllNodes P (n ∷ l)
 
--- every type that an expression's node can have is of no more than 128 levels
+-- every type that an expression's node can have, and every type that a statement or a block can return, is of no more than 128 levels
 abbrev pub Comparable : JudgedNode → Type 0
 Comparable (expr-node Γ e) = (t : Ty) → HasE Γ e t → TyFits t 128
 Comparable (adr-node Γ p x) = Unit {0}
@@ -93,11 +103,14 @@ Comparable (vec-node p t) = Unit {0}
 Comparable (param-node a) = Unit {0}
 Comparable (single-node xs a) = Unit {0}
 Comparable (def-node Γ d) = Unit {0}
-Comparable (stat-node Γ c) = Unit {0}
+Comparable (stat-node Γ c) = (f : Flow) → HasS Γ c f → FlowFits f 128
+Comparable (followed-node Γ c) = Unit {0}
+Comparable (block-node Γ b) = (f : Flow) → HasB Γ b f → FlowFits f 128
+Comparable (prog-node b) = Unit {0}
 
--- 128 levels are always enough to compare types: where no word opens a level past the 64th, no expression has a type of more.
+-- 128 levels are always enough to compare types: where no word opens a level past the 64th, no expression has and nothing returns a type of more.
 abbrev pub Levels128 : Type 0
-Levels128 = (b : Block) → Within deepest (levels b) → AllNodes Comparable (nodes-block [] b)
+Levels128 = (b : Block) → Within deepest (levels b) → AllNodes Comparable (nodes-prog b)
 
 -- ---- runs
 
@@ -175,12 +188,12 @@ LimitIsUsedUp = (L : Limits) (b : Block) → UsedUp L (run L b)
 abbrev pub UnsetNamesItsCell : Type 0
 UnsetNamesItsCell = (L : Limits) (b : Block) → UnsetCell (run L b)
 
--- 000's (LOOP0) and (LOOP1): after a round the WHILE is entered anew, at its own depth.
+-- 004's (LOOP0), (LOOP1A) and (LOOP1B): after a round that does not return the WHILE is entered anew, at its own depth.
 abbrev pub WhileRule : Type 0
 WhileRule = (L : Limits) (d p : ℕ) (e : Expr) (b : Block) (ρ : Env) (s : State) →
     level L (suc d) .stat (while p e b) ρ s ≡
     enter L p s (λ s₁. bind (level L d .expr e ρ s₁) λ v s₂. need (as-truth v) p s₂ λ t.
-    branch t (bind (in-block (level L d) b ρ s₂) λ u s₃. level L (suc d) .stat (while p e b) ρ s₃) (ok tt s₂))
+    branch t (unless-returned (in-block (level L d) b ρ s₂) λ s₃. level L (suc d) .stat (while p e b) ρ s₃) (ok Option.none s₂))
 
 -- div rounds down: the dividend is quotient times divisor plus a rest, which is 0 or has the divisor's sign, and whose size is below the divisor's.
 abbrev pub RoundsDown : Type 0
@@ -190,6 +203,16 @@ RoundsDown = (a b : ℤ) → ¬ (b ≡ pos 0) →
 -- Some tree does reach a state that no rule fits, so that NeverStuck says something: [ECHO y].
 abbrev pub NoRuleIsReached : Type 0
 NoRuleIsReached = NoRule (run greatest-limits (block 0 (last (echo 1 (name (at 6 (bytesOf "y")))))))
+
+-- Nor does a rule fit a program that returns, or an application whose block does not: so NeverStuck says that blocks return as they are typed.
+-- [RETURN 1] and [FUN f int [x:int] [ECHO 2]; ECHO (f 3)].
+abbrev pub NoRuleForReturns : Type 0
+NoRuleForReturns =
+    NoRule (run greatest-limits (block 0 (last (return 1 (num 8 (pos 1)))))) ×
+    NoRule (run greatest-limits
+    (block 0
+    (def-then (fun-block 1 (at 5 (bytesOf "f")) (int 7) (arg (at 12 (bytesOf "x")) (int 14) ∷ []) (block 19 (last (echo 20 (num 25 (pos 2))))))
+    (last (echo 29 (app 34 (name (at 35 (bytesOf "f"))) (one-expr (num 37 (pos 3)))))))))
 
 -- ---- promises
 
@@ -314,6 +337,7 @@ StatStores (set p (at q x) e) ρ = λ c. look ρ x ≡ some (inA c)
 StatStores (if-stat p e a b) ρ = nowhere
 StatStores (while p e b) ρ = nowhere
 StatStores (call p x as′) ρ = nowhere
+StatStores (return p e) ρ = nowhere
 
 -- Stores go to a variable's cell or a block's: of a rule whose parts store nothing, SET stores to its variable's cell, vset to a cell of its block, and every other rule leaves in each cell
 -- that is taken what was there. (That SET and vset never miss a taken cell is NeverStuck.)

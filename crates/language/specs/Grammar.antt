@@ -1,8 +1,8 @@
--- The grammar of APS1a, 000 section 3.1, with the blocks of cells of APS2 (request 5): `Reads k e ts r` says that the words from the front of `ts` up to where `r` begins are the tree `e`,
+-- The grammar of APS1a, 000 section 3.1, with the blocks of cells of APS2 (request 5) and what APS3 adds, 004 section 5.1: `Reads k e ts r` says that the words from the front of `ts` up to where `r` begins are the tree `e`,
 -- by the lines for `k`. One constructor for each line, in the source's order of words.
 use Rattle.language.specs.Library.{ℕ, ℤ, List, [], _∷_, _++_}
-use Rattle.language.specs.Syntax.{Ident, TypeTree, bool, int, arrow, vec, TypeTrees, one-type, more-types, Arg, arg, ArgP, val-arg, var-arg, Expr, num, name, if-expr, and, or, app, abs, alloc, nth-expr, len, vset, Exprs, one-expr, more-exprs, ExprP, val, adr, Cmds, last, def-then, stat-then, Def, const, fun, fun-rec, var, proc, proc-rec, Stat, echo, set, if-stat, while, call, Block, block}
-use Rattle.language.specs.Words.{kLbr, kRbr, kLpar, kRpar, kSemi, kColon, kComma, kStar, kArrow, kCONST, kFUN, kREC, kVAR, kPROC, kECHO, kSET, kIF, kWHILE, kCALL, kif, kand, kor, kbool, kint, kvar, kadr, kvec, kalloc, knth, klen, kvset, Word, mark, number, named}
+use Rattle.language.specs.Syntax.{Ident, TypeTree, bool, int, arrow, vec, TypeTrees, one-type, more-types, Arg, arg, ArgP, val-arg, var-arg, Expr, num, name, if-expr, and, or, app, abs, alloc, nth-expr, len, vset, Exprs, one-expr, more-exprs, ExprP, val, adr, Cmds, last, def-then, stat-then, Def, const, fun, fun-rec, fun-block, fun-rec-block, var, proc, proc-rec, Stat, echo, set, if-stat, while, call, return, Block, block}
+use Rattle.language.specs.Words.{kLbr, kRbr, kLpar, kRpar, kSemi, kColon, kComma, kStar, kArrow, kCONST, kFUN, kREC, kVAR, kPROC, kECHO, kSET, kIF, kWHILE, kCALL, kRETURN, kif, kand, kor, kbool, kint, kvar, kadr, kvec, kalloc, knth, klen, kvset, Word, mark, number, named}
 
 -- The left sides of the grammar, and the trees of each.
 pub data Sort : Type 0 where
@@ -27,19 +27,25 @@ TreeOf EXPRSP = List ExprP
 pub data Reads : (k : Sort) → TreeOf k → List Word → List Word → Type 0 where
   -- BLOCK ::= [ CMDS ]
   r-block : {p i : ℕ} {c : Cmds} {ts r : List Word} → Reads CMDS c ts (mark kRbr i ∷ r) → Reads BLOCK (block p c) (mark kLbr p ∷ ts) r
-  -- CMDS ::= STAT | DEF ; CMDS | STAT ; CMDS
+  -- CMDS ::= STAT | DEF ; CMDS | STAT ; CMDS | RET, RET ::= RETURN EXPR: nothing may follow a RETURN
   r-last : {a : Stat} {ts r : List Word} → Reads STAT a ts r → Reads CMDS (last a) ts r
   r-def-then : {i : ℕ} {d : Def} {c : Cmds} {ts us r : List Word} → Reads DEF d ts (mark kSemi i ∷ us) → Reads CMDS c us r
       → Reads CMDS (def-then d c) ts r
   r-stat-then : {i : ℕ} {a : Stat} {c : Cmds} {ts us r : List Word} → Reads STAT a ts (mark kSemi i ∷ us) → Reads CMDS c us r
       → Reads CMDS (stat-then a c) ts r
+  r-return : {p : ℕ} {e : Expr} {ts r : List Word} → Reads EXPR e ts r → Reads CMDS (last (return p e)) (mark kRETURN p ∷ ts) r
   -- DEF ::= CONST ident TYPE EXPR | FUN ident TYPE [ ARGS ] EXPR | FUN REC ident TYPE [ ARGS ] EXPR | VAR ident TYPE | PROC ident [ ARGSP ] BLOCK | PROC REC ident [ ARGSP ] BLOCK
+  --     | FUN ident TYPE [ ARGS ] BLOCK | FUN REC ident TYPE [ ARGS ] BLOCK
   r-const : {p : ℕ} {x : Ident} {t : TypeTree} {e : Expr} {ts us r : List Word} → Reads TYPE t ts us → Reads EXPR e us r
       → Reads DEF (const p x t e) (mark kCONST p ∷ named x ∷ ts) r
   r-fun : {p i j : ℕ} {x : Ident} {t : TypeTree} {a : List Arg} {e : Expr} {ts us vs r : List Word} → Reads TYPE t ts (mark kLbr i ∷ us) → Reads ARGS a us (mark kRbr j ∷ vs) → Reads EXPR e vs r
       → Reads DEF (fun p x t a e) (mark kFUN p ∷ named x ∷ ts) r
   r-fun-rec : {p i j k : ℕ} {x : Ident} {t : TypeTree} {a : List Arg} {e : Expr} {ts us vs r : List Word} → Reads TYPE t ts (mark kLbr j ∷ us) → Reads ARGS a us (mark kRbr k ∷ vs) → Reads EXPR e vs r
       → Reads DEF (fun-rec p x t a e) (mark kFUN p ∷ mark kREC i ∷ named x ∷ ts) r
+  r-fun-block : {p i j : ℕ} {x : Ident} {t : TypeTree} {a : List Arg} {b : Block} {ts us vs r : List Word} → Reads TYPE t ts (mark kLbr i ∷ us) → Reads ARGS a us (mark kRbr j ∷ vs) → Reads BLOCK b vs r
+      → Reads DEF (fun-block p x t a b) (mark kFUN p ∷ named x ∷ ts) r
+  r-fun-rec-block : {p i j k : ℕ} {x : Ident} {t : TypeTree} {a : List Arg} {b : Block} {ts us vs r : List Word} → Reads TYPE t ts (mark kLbr j ∷ us) → Reads ARGS a us (mark kRbr k ∷ vs) → Reads BLOCK b vs r
+      → Reads DEF (fun-rec-block p x t a b) (mark kFUN p ∷ mark kREC i ∷ named x ∷ ts) r
   r-var : {p : ℕ} {x : Ident} {t : TypeTree} {ts r : List Word} → Reads TYPE t ts r → Reads DEF (var p x t) (mark kVAR p ∷ named x ∷ ts) r
   r-proc : {p i j : ℕ} {x : Ident} {a : List ArgP} {b : Block} {ts us r : List Word} → Reads ARGSP a ts (mark kRbr j ∷ us) → Reads BLOCK b us r
       → Reads DEF (proc p x a b) (mark kPROC p ∷ named x ∷ mark kLbr i ∷ ts) r

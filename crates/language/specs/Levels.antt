@@ -2,7 +2,7 @@
 -- (request 5) each open one level at their first word; parameter lists open none.
 -- `levels e d l`: the level that each word of the tree `e` opens, 0 for none, in text order, where `d` levels are open; before those in `l`.
 use Rattle.language.specs.Library.{ℕ, suc, List, [], _∷_}
-use Rattle.language.specs.Syntax.{TypeTree, bool, int, arrow, vec, TypeTrees, one-type, more-types, Arg, arg, ArgP, val-arg, var-arg, Expr, num, name, if-expr, and, or, app, abs, alloc, nth-expr, len, vset, Exprs, one-expr, more-exprs, ExprP, val, adr, Cmds, last, def-then, stat-then, Def, const, fun, fun-rec, var, proc, proc-rec, Stat, echo, set, if-stat, while, call, Block, block}
+use Rattle.language.specs.Syntax.{TypeTree, bool, int, arrow, vec, TypeTrees, one-type, more-types, Arg, arg, ArgP, val-arg, var-arg, Expr, num, name, if-expr, and, or, app, abs, alloc, nth-expr, len, vset, Exprs, one-expr, more-exprs, ExprP, val, adr, Cmds, last, def-then, stat-then, Def, const, fun, fun-rec, fun-block, fun-rec-block, var, proc, proc-rec, Stat, echo, set, if-stat, while, call, return, Block, block}
 
 unfoldable mutual
   pub levelsType : TypeTree → ℕ → List ℕ → List ℕ
@@ -66,6 +66,8 @@ unfoldable mutual
   levelsDef (const p x t e) d l = 0 ∷ 0 ∷ levelsType t d (levelsExpr e d l)
   levelsDef (fun p x t a e) d l = 0 ∷ 0 ∷ levelsType t d (0 ∷ levelsArgs a d (levelsExpr e d l))
   levelsDef (fun-rec p x t a e) d l = 0 ∷ 0 ∷ 0 ∷ levelsType t d (0 ∷ levelsArgs a d (levelsExpr e d l))
+  levelsDef (fun-block p x t a b) d l = 0 ∷ 0 ∷ levelsType t d (0 ∷ levelsArgs a d (levelsBlock b d l))
+  levelsDef (fun-rec-block p x t a b) d l = 0 ∷ 0 ∷ 0 ∷ levelsType t d (0 ∷ levelsArgs a d (levelsBlock b d l))
   levelsDef (var p x t) d l = 0 ∷ 0 ∷ levelsType t d l
   levelsDef (proc p x a b) d l = 0 ∷ 0 ∷ 0 ∷ levelsArgsP a d (levelsBlock b d l)
   levelsDef (proc-rec p x a b) d l = 0 ∷ 0 ∷ 0 ∷ 0 ∷ levelsArgsP a d (levelsBlock b d l)
@@ -76,6 +78,7 @@ unfoldable mutual
   levelsStat (if-stat p e b c) d l = 0 ∷ levelsExpr e d (levelsBlock b d (levelsBlock c d l))
   levelsStat (while p e b) d l = 0 ∷ levelsExpr e d (levelsBlock b d l)
   levelsStat (call p x a) d l = 0 ∷ 0 ∷ levelsExprsP a d l
+  levelsStat (return p e) d l = 0 ∷ levelsExpr e d l
 
   pub levelsBlock : Block → ℕ → List ℕ → List ℕ
   levelsBlock (block p c) d l = suc d ∷ levelsCmds c (suc d) (0 ∷ l)

@@ -1,14 +1,15 @@
 -- Where TYPE and DOUBLE are reported (document 01, request 1): the first node, in the order in which nodes end, that cannot be typed.
 -- Children end before their parents, so at the first such node every part is typed and the node's own rule cannot be met.
 use Rattle.language.specs.Library.{ℕ, List, [], _∷_, _++_, Option, none, some}
-use Rattle.language.specs.Syntax.{Name, Ident, at, TypeTree, bool, int, arrow, vec, TypeTrees, one-type, more-types, ArgP, Expr, num, name, if-expr, and, or, app, abs, alloc, nth-expr, len, vset, Exprs, one-expr, more-exprs, ExprP, val, adr, Cmds, last, def-then, stat-then, Def, const, fun, fun-rec, var, proc, proc-rec, Stat, echo, set, if-stat, while, call, Block, block}
-use Rattle.language.specs.Places.{place-expr, place-param, place-def, place-stat}
+use Rattle.language.specs.Syntax.{Name, Ident, at, TypeTree, bool, int, arrow, vec, TypeTrees, one-type, more-types, ArgP, Expr, num, name, if-expr, and, or, app, abs, alloc, nth-expr, len, vset, Exprs, one-expr, more-exprs, ExprP, val, adr, Cmds, last, def-then, stat-then, Def, const, fun, fun-rec, fun-block, fun-rec-block, var, proc, proc-rec, Stat, echo, set, if-stat, while, call, return, Block, block}
+use Rattle.language.specs.Places.{place-expr, place-param, place-def, place-stat, place-block}
 use Rattle.language.specs.Answers.{Refusal, TYPE, DOUBLE}
 use Rattle.language.specs.Names.{Op, head-operator}
-use Rattle.language.specs.Types.{Ty, typeOf, Par, value, ref, plain, procedure, Ctx, extend, values, pars, param-type, param-name, declared, fun-type}
-use Rattle.language.specs.Typing.{Formed, Declarable, Single, HasE, HasA, HasD, HasS}
+use Rattle.language.specs.Types.{Ty, typeOf, Par, value, ref, plain, procedure, Ctx, extend, values, pars, param-type, param-name, declared, fun-type, Flow}
+use Rattle.language.specs.Typing.{Formed, Declarable, Single, HasE, HasA, GoesOn, HasB, HasD, HasS, Typable}
 
--- a node that a rule judges, with the names that it may use. Blocks, types but vec, names after a key word and operator heads have no rule of their own
+-- a node that a rule judges, with the names that it may use. Types but vec, names after a key word and operator heads have no rule of their own.
+-- A statement that others follow and a program's block are judged once more, at themselves: what always returns stands last, and a program never returns
 pub data JudgedNode : Type 0 where
   expr-node : Ctx → Expr → JudgedNode
   adr-node : Ctx → ℕ → Ident → JudgedNode
@@ -16,13 +17,39 @@ pub data JudgedNode : Type 0 where
   param-node : ArgP → JudgedNode
   single-node : (before : List Name) → ArgP → JudgedNode  -- the same parameter, after its own rule: that its name is none of those before it
   def-node : Ctx → Def → JudgedNode
-  stat-node : Ctx → Stat → JudgedNode
+  stat-node followed-node : Ctx → Stat → JudgedNode
+  block-node : Ctx → Block → JudgedNode
+  prog-node : Block → JudgedNode
 
 abbrev pub place-node : JudgedNode → ℕ
-place-node = elim [ expr-node Γ e ↦ place-expr e | adr-node Γ p x ↦ p | vec-node p t ↦ p | param-node a ↦ place-param a | single-node xs a ↦ place-param a | def-node Γ d ↦ place-def d | stat-node Γ c ↦ place-stat c ]
+place-node =
+    elim [
+      | expr-node Γ e ↦ place-expr e
+      | adr-node Γ p x ↦ p
+      | vec-node p t ↦ p
+      | param-node a ↦ place-param a
+      | single-node xs a ↦ place-param a
+      | def-node Γ d ↦ place-def d
+      | stat-node Γ c ↦ place-stat c
+      | followed-node Γ c ↦ place-stat c
+      | block-node Γ b ↦ place-block b
+      | prog-node b ↦ place-block b
+    ]
 
 abbrev pub refusal-node : JudgedNode → Refusal  -- what is said where a node cannot be typed
-refusal-node = elim [ expr-node Γ e ↦ TYPE | adr-node Γ p x ↦ TYPE | vec-node p t ↦ TYPE | param-node a ↦ TYPE | single-node xs a ↦ DOUBLE | def-node Γ d ↦ TYPE | stat-node Γ c ↦ TYPE ]
+refusal-node =
+    elim [
+      | expr-node Γ e ↦ TYPE
+      | adr-node Γ p x ↦ TYPE
+      | vec-node p t ↦ TYPE
+      | param-node a ↦ TYPE
+      | single-node xs a ↦ DOUBLE
+      | def-node Γ d ↦ TYPE
+      | stat-node Γ c ↦ TYPE
+      | followed-node Γ c ↦ TYPE
+      | block-node Γ b ↦ TYPE
+      | prog-node b ↦ TYPE
+    ]
 
 abbrev pub Typed : JudgedNode → Type 0  -- a node that can be typed
 Typed (expr-node Γ e) = (t : Ty) × HasE Γ e t
@@ -31,12 +58,17 @@ Typed (vec-node p t) = Formed (vec p t)
 Typed (param-node a) = Declarable a
 Typed (single-node xs a) = Single xs a
 Typed (def-node Γ d) = (Δ : Ctx) × HasD Γ d Δ
-Typed (stat-node Γ c) = HasS Γ c
+Typed (stat-node Γ c) = (f : Flow) × HasS Γ c f
+Typed (followed-node Γ c) = (f : Flow) × HasS Γ c f × GoesOn f
+Typed (block-node Γ b) = (f : Flow) × HasB Γ b f
+Typed (prog-node b) = Typable b
 
 abbrev pub after-def : Def → Ctx → Ctx  -- the names after a definition
 after-def (const p (at q x) t e) Γ = (x, plain (value (typeOf t))) ∷ Γ
 after-def (fun p (at q x) t ps e) Γ = (x, plain (value (fun-type ps t))) ∷ Γ
 after-def (fun-rec p (at q x) t ps e) Γ = (x, plain (value (fun-type ps t))) ∷ Γ
+after-def (fun-block p (at q x) t ps b) Γ = (x, plain (value (fun-type ps t))) ∷ Γ
+after-def (fun-rec-block p (at q x) t ps b) Γ = (x, plain (value (fun-type ps t))) ∷ Γ
 after-def (var p (at q x) t) Γ = (x, plain (ref (typeOf t))) ∷ Γ
 after-def (proc p (at q x) ps b) Γ = (x, procedure (pars ps)) ∷ Γ
 after-def (proc-rec p (at q x) ps b) Γ = (x, procedure (pars ps)) ∷ Γ
@@ -93,11 +125,11 @@ nodes-args Γ (a ∷ as′) = nodes-arg Γ a ++ nodes-args Γ as′
 
 unfoldable mutual
   pub nodes-block : Ctx → Block → List JudgedNode
-  nodes-block Γ (block p cs) = nodes-cmds Γ cs
+  nodes-block Γ (block p cs) = nodes-cmds Γ cs ++ (block-node Γ (block p cs) ∷ [])
 
   pub nodes-cmds : Ctx → Cmds → List JudgedNode
   nodes-cmds Γ (def-then d cs) = nodes-def Γ d ++ nodes-cmds (after-def d Γ) cs
-  nodes-cmds Γ (stat-then c cs) = nodes-stat Γ c ++ nodes-cmds Γ cs
+  nodes-cmds Γ (stat-then c cs) = nodes-stat Γ c ++ (followed-node Γ c ∷ nodes-cmds Γ cs)
   nodes-cmds Γ (last c) = nodes-stat Γ c
 
   pub nodes-def : Ctx → Def → List JudgedNode
@@ -107,6 +139,11 @@ unfoldable mutual
   nodes-def Γ (fun-rec p (at q x) t ps e) =
       nodes-type t ++ (nodes-params (values ps) ++
       (nodes-expr ((x, plain (value (fun-type ps t))) ∷ extend (declared (values ps)) Γ) e ++ (def-node Γ (fun-rec p (at q x) t ps e) ∷ [])))
+  nodes-def Γ (fun-block p x t ps b) =
+      nodes-type t ++ (nodes-params (values ps) ++ (nodes-block (extend (declared (values ps)) Γ) b ++ (def-node Γ (fun-block p x t ps b) ∷ [])))
+  nodes-def Γ (fun-rec-block p (at q x) t ps b) =
+      nodes-type t ++ (nodes-params (values ps) ++
+      (nodes-block ((x, plain (value (fun-type ps t))) ∷ extend (declared (values ps)) Γ) b ++ (def-node Γ (fun-rec-block p (at q x) t ps b) ∷ [])))
   nodes-def Γ (var p x t) = nodes-type t ++ (def-node Γ (var p x t) ∷ [])
   nodes-def Γ (proc p x ps b) = nodes-params ps ++ (nodes-block (extend (declared ps) Γ) b ++ (def-node Γ (proc p x ps b) ∷ []))
   nodes-def Γ (proc-rec p (at q x) ps b) =
@@ -118,10 +155,14 @@ unfoldable mutual
   nodes-stat Γ (if-stat p e a b) = nodes-expr Γ e ++ (nodes-block Γ a ++ (nodes-block Γ b ++ (stat-node Γ (if-stat p e a b) ∷ [])))
   nodes-stat Γ (while p e b) = nodes-expr Γ e ++ (nodes-block Γ b ++ (stat-node Γ (while p e b) ∷ []))
   nodes-stat Γ (call p x as′) = nodes-args Γ as′ ++ (stat-node Γ (call p x as′) ∷ [])
+  nodes-stat Γ (return p e) = nodes-expr Γ e ++ (stat-node Γ (return p e) ∷ [])
+
+abbrev pub nodes-prog : Block → List JudgedNode  -- those of a program
+nodes-prog b = nodes-block [] b ++ (prog-node b ∷ [])
 
 pub data FirstBad : List JudgedNode → Refusal → ℕ → Type 0 where  -- the first of the nodes that cannot be typed stands at q, and r is said there
   here : {n : JudgedNode} {l : List JudgedNode} → ¬ Typed n → FirstBad (n ∷ l) (refusal-node n) (place-node n)
   later : {n : JudgedNode} {l : List JudgedNode} {r : Refusal} {q : ℕ} → Typed n → FirstBad l r q → FirstBad (n ∷ l) r q
 
 abbrev pub TypeRefused : Block → Refusal → ℕ → Type 0  -- a program is refused with r, TYPE or DOUBLE, at q
-TypeRefused b r q = FirstBad (nodes-block [] b) r q
+TypeRefused b r q = FirstBad (nodes-prog b) r q

@@ -1,9 +1,9 @@
--- The evaluation rules, under 000's names (section 3.3) and, for blocks of cells, 004's (5.3.2), executable. They are written over any tree and read no types.
+-- The evaluation rules, under 000's names (section 3.3) and 004's (section 5.3), executable. They are written over any tree and read no types.
 -- The state counts what is taken; the limits are a parameter. A state that no rule fits is an outcome of its own, `no-rule`.
 use Rattle.language.specs.Library.{ℕ, zero, suc, _+_, ℤ, pos, negsuc, Bool, true, false, cond, leb, ltb, List, [], _∷_, _++_, length, replicate, Option, none, some}
-use Rattle.language.specs.Syntax.{Name, at, Expr, num, name, if-expr, and, or, app, abs, alloc, nth-expr, len, vset, Exprs, one-expr, more-exprs, ExprP, val, adr, Cmds, last, def-then, stat-then, Def, const, fun, fun-rec, var, proc, proc-rec, Stat, echo, set, if-stat, while, call, Block, block}
+use Rattle.language.specs.Syntax.{Name, at, Expr, num, name, if-expr, and, or, app, abs, alloc, nth-expr, len, vset, Exprs, one-expr, more-exprs, ExprP, val, adr, Cmds, last, def-then, stat-then, Def, const, fun, fun-rec, fun-block, fun-rec-block, var, proc, proc-rec, Stat, echo, set, if-stat, while, call, return, Block, block}
 use Rattle.language.specs.Bytes.{same-bytes}
-use Rattle.language.specs.Places.{place-expr, place-arg, place-def, place-stat}
+use Rattle.language.specs.Places.{place-expr, place-arg, place-def, place-stat, place-block}
 use Rattle.language.specs.Answers.{LimitStop, FUEL, DEPTH, CELLS, BINDINGS, OUTPUT, ErrorStop, UNSET, SIZE, INDEX, Stop, limit, error}
 use Rattle.language.specs.Names.{Op, Meaning, literal, operator, free, meaning, unless-nine, head-operator}
 use Rattle.language.specs.Numbers.{Computed, amount, fails, bit, as-bit, compute}
@@ -36,6 +36,9 @@ pub record State : Type 0 where
   pub cells : List Cell
   pub numbers : List ℤ
 
+abbrev pub Returned : Type 0  -- 004's V with ε: the value that a RETURN gave, or none
+Returned = Option Val
+
 pub data Why : Type 0 where  -- why a run ends early
   stop : Stop → Why
   no-rule : Why
@@ -58,6 +61,11 @@ module _ {A B : Type 0} where
   unfoldable pub otherwise : Option A → ErrorStop → ℕ → State → (A → Outcome B) → Outcome B  -- what a script must see to: an error where it does not
   otherwise none x p s k = halt (stop (error x)) p s
   otherwise (some a) x p s k = k a
+
+unfoldable pub unless-returned : Outcome Returned → (State → Outcome Returned) → Outcome Returned  -- commands, and then others, which a RETURN passes over
+unless-returned (ok none s) k = k s
+unless-returned (ok (some v) s) k = ok (some v) s
+unless-returned (halt w p s) k = halt w p s
 
 module _ {A : Type 0} where
   unfoldable pub within : Bool → LimitStop → ℕ → State → Outcome A → Outcome A  -- a limit that must hold
@@ -166,13 +174,17 @@ abbrev pub also : Name → Val → Option Env → Option Env  -- a recursive one
 also f v none = none
 also f v (some ρ) = some (bound f v ρ)
 
--- a function that is applied (APP, APPR): its body under the names of its definition
-abbrev pub open-function : Val → List Val → Option (Entered Expr)
+pub data Body : Type 0 where  -- a function's body
+  an-expr : Expr → Body
+  a-block : Block → Body
+
+-- a function that is applied (APP, APPR; with a block, 004's APP′, APPR′): its body under the names of its definition
+abbrev pub open-function : Val → List Val → Option (Entered Body)
 open-function (inZ n) vs = none
-open-function (inF e xs ρ) vs = entering e (length xs) (bind-all xs vs ρ)
-open-function (inFR e f xs ρ) vs = entering e (suc (length xs)) (also f (inFR e f xs ρ) (bind-all xs vs ρ))
-open-function (inP b xs ρ) vs = none
-open-function (inPR b f xs ρ) vs = none
+open-function (inF e xs ρ) vs = entering (an-expr e) (length xs) (bind-all xs vs ρ)
+open-function (inFR e f xs ρ) vs = entering (an-expr e) (suc (length xs)) (also f (inFR e f xs ρ) (bind-all xs vs ρ))
+open-function (inP b xs ρ) vs = entering (a-block b) (length xs) (bind-all xs vs ρ)
+open-function (inPR b f xs ρ) vs = entering (a-block b) (suc (length xs)) (also f (inPR b f xs ρ) (bind-all xs vs ρ))
 open-function (inA a) vs = none
 open-function (inB a n) vs = none
 
@@ -200,7 +212,7 @@ pub record Level : Type 0 where
   pub expr : Expr → Env → State → Outcome Val
   pub arg : ExprP → Env → State → Outcome Val
   pub def : Def → Env → State → Outcome Env
-  pub stat : Stat → Env → State → Outcome (Unit {0})
+  pub stat : Stat → Env → State → Outcome Returned
 
 abbrev pub exprs : Level → Exprs → Env → State → Outcome (List Val)  -- e₁ … eₙ, left to right
 exprs r (one-expr e) ρ s = bind (r .expr e ρ s) λ v s₁. ok (v ∷ []) s₁
@@ -210,13 +222,17 @@ abbrev pub args : Level → List ExprP → Env → State → Outcome (List Val)
 args r [] ρ s = ok [] s
 args r (a ∷ as′) ρ s = bind (r .arg a ρ s) λ v s₁. bind (args r as′ ρ s₁) λ vs s₂. ok (v ∷ vs) s₂
 
-abbrev pub cmds : Level → Cmds → Env → State → Outcome (Unit {0})  -- (DECS), (STATS), (END)
+abbrev pub cmds : Level → Cmds → Env → State → Outcome Returned  -- (DECS), (STATS: 004's STAT0 and STAT1), (END)
 cmds r (def-then d cs) ρ s = bind (r .def d ρ s) λ ρ₁ s₁. cmds r cs ρ₁ s₁
-cmds r (stat-then c cs) ρ s = bind (r .stat c ρ s) λ u s₁. cmds r cs ρ s₁
+cmds r (stat-then c cs) ρ s = unless-returned (r .stat c ρ s) λ s₁. cmds r cs ρ s₁
 cmds r (last c) ρ s = r .stat c ρ s
 
-abbrev pub in-block : Level → Block → Env → State → Outcome (Unit {0})  -- (BLOCK)
+abbrev pub in-block : Level → Block → Env → State → Outcome Returned  -- (BLOCK)
 in-block r (block p cs) ρ s = cmds r cs ρ s
+
+abbrev pub in-body : Level → Body → Env → ℕ → State → Outcome Val  -- a body's value is what its expression has, or what its block returns
+in-body r (an-expr e) ρ p s = r .expr e ρ s
+in-body r (a-block b) ρ p s = bind (in-block r b ρ s) λ o s₁. need o p s₁ λ v. ok v s₁
 
 abbrev pub read : Val → ℕ → State → Outcome Val  -- (ID1) an address is read through, (ID2) any other value is the name's
 read (inZ n) p s = ok (inZ n) s
@@ -232,11 +248,11 @@ name-rule (literal b) o p s = ok (inZ (bit b)) s
 name-rule (operator f) o p s = halt no-rule p s
 name-rule free o p s = need o p s λ v. read v p s
 
--- (PRIM1), (PRIM2) where the head is an operator; else (APP), (APPR): head, arguments, bindings, body
+-- (PRIM1), (PRIM2) where the head is an operator; else (APP), (APPR), (APP′), (APPR′): head, arguments, bindings, body
 abbrev pub apply-rule : Limits → Level → Option Op → ℕ → Expr → Exprs → Env → State → Outcome Val
 apply-rule L r (some o) p f es ρ s = bind (exprs r es ρ s) λ vs s₁. need (operate o vs) p s₁ λ c. give c p s₁
 apply-rule L r none p f es ρ s =
-    bind (r .expr f ρ s) λ v s₁. bind (exprs r es ρ s₁) λ vs s₂. need (open-function v vs) p s₂ λ c. make L (c .count) p s₂ λ s₃. r .expr (c .body) (c .env) s₃
+    bind (r .expr f ρ s) λ v s₁. bind (exprs r es ρ s₁) λ vs s₂. need (open-function v vs) p s₂ λ c. make L (c .count) p s₂ λ s₃. in-body r (c .body) (c .env) p s₃
 
 -- (ALLOC) so many fresh cells, which are unset, all or none: a size below 0 is SIZE, then too few cells are CELLS
 abbrev pub alloc-rule : Limits → ℕ → ℤ → State → Outcome Val
@@ -276,6 +292,8 @@ abbrev pub def-rule : Limits → Level → Def → Env → State → Outcome Env
 def-rule L r (const p (at q x) t e) ρ s = bind (r .expr e ρ s) λ v s₁. make L 1 p s₁ λ s₂. ok (bound x v ρ) s₂  -- (CONST)
 def-rule L r (fun p (at q x) t ps e) ρ s = make L 1 p s λ s₁. ok (bound x (inF e (param-names (values ps)) ρ) ρ) s₁  -- (FUN), (FUNREC)
 def-rule L r (fun-rec p (at q x) t ps e) ρ s = make L 1 p s λ s₁. ok (bound x (inFR e x (param-names (values ps)) ρ) ρ) s₁
+def-rule L r (fun-block p (at q x) t ps b) ρ s = make L 1 p s λ s₁. ok (bound x (inP b (param-names (values ps)) ρ) ρ) s₁  -- (FUNP), (FUNPR)
+def-rule L r (fun-rec-block p (at q x) t ps b) ρ s = make L 1 p s λ s₁. ok (bound x (inPR b x (param-names (values ps)) ρ) ρ) s₁
 -- (VAR) a fresh cell, which is unset; then a binding
 def-rule L r (var p (at q x) t) ρ s =
     within (ltb (length (s .cells)) (L .cells)) CELLS p s
@@ -284,26 +302,28 @@ def-rule L r (proc p (at q x) ps b) ρ s = make L 1 p s λ s₁. ok (bound x (in
 def-rule L r (proc-rec p (at q x) ps b) ρ s = make L 1 p s λ s₁. ok (bound x (inPR b x (param-names ps) ρ) ρ) s₁
 
 -- the rounds of a WHILE that is entered: each ends by entering it anew. The count makes the recursion structural and never ends a loop:
--- each round takes a unit, and the claim `WhileRule` is 000's (LOOP0) and (LOOP1)
-abbrev pub rounds : Limits → ℕ → (State → Outcome Val) → (State → Outcome (Unit {0})) → ℕ → State → Outcome (Unit {0})
+-- each round takes a unit, and the claim `WhileRule` is 004's (LOOP0), (LOOP1A) and (LOOP1B). A round that returns is the last
+abbrev pub rounds : Limits → ℕ → (State → Outcome Val) → (State → Outcome Returned) → ℕ → State → Outcome Returned
 rounds L zero test run p s = halt (stop (limit FUEL)) p s
 rounds L (suc n) test run p s =
     bind (test s) λ v s₁. need (as-truth v) p s₁ λ t.
-    branch t (bind (run s₁) λ u s₂. enter L p s₂ λ s₃. rounds L n test run p s₃) (ok tt s₁)
+    branch t (unless-returned (run s₁) λ s₂. enter L p s₂ λ s₃. rounds L n test run p s₃) (ok none s₁)
 
-abbrev pub stat-rule : Limits → Level → Stat → Env → State → Outcome (Unit {0})
+abbrev pub stat-rule : Limits → Level → Stat → Env → State → Outcome Returned
 -- (ECHO)
 stat-rule L r (echo p e) ρ s =
-    bind (r .expr e ρ s) λ v s₁. need (as-number v) p s₁ λ n. within (ltb (length (s₁ .numbers)) (L .output)) OUTPUT p s₁ (ok tt (put-out n s₁))
+    bind (r .expr e ρ s) λ v s₁. need (as-number v) p s₁ λ n. within (ltb (length (s₁ .numbers)) (L .output)) OUTPUT p s₁ (ok none (put-out n s₁))
 -- (SET)
 stat-rule L r (set p (at q x) e) ρ s =
-    need (look ρ x) p s λ w. need (as-address w) p s λ a. bind (r .expr e ρ s) λ v s₁. need (store (s₁ .cells) a v) p s₁ λ c. ok tt (with-cells c s₁)
+    need (look ρ x) p s λ w. need (as-address w) p s λ a. bind (r .expr e ρ s) λ v s₁. need (store (s₁ .cells) a v) p s₁ λ c. ok none (with-cells c s₁)
 -- (IF1), (IF0)
 stat-rule L r (if-stat p e a b) ρ s = bind (r .expr e ρ s) λ v s₁. need (as-truth v) p s₁ λ t. branch t (in-block r a ρ s₁) (in-block r b ρ s₁)
-stat-rule L r (while p e b) ρ s = rounds L (suc (L .fuel)) (r .expr e ρ) (in-block r b ρ) p s  -- (LOOP0), (LOOP1)
+stat-rule L r (while p e b) ρ s = rounds L (suc (L .fuel)) (r .expr e ρ) (in-block r b ρ) p s  -- (LOOP0), (LOOP1A), (LOOP1B)
 -- (CALL), (CALLR): arguments, bindings, block
 stat-rule L r (call p (at q x) as′) ρ s =
     need (look ρ x) p s λ w. bind (args r as′ ρ s) λ vs s₁. need (open-procedure w vs) p s₁ λ c. make L (c .count) p s₁ λ s₂. in-block r (c .body) (c .env) s₂
+-- (RET)
+stat-rule L r (return p e) ρ s = bind (r .expr e ρ s) λ v s₁. ok (some v) s₁
 
 -- ---- depth
 
@@ -330,5 +350,9 @@ level L (suc d) = step L (level L d)
 abbrev pub start : State  -- no units, no bindings, no cells, no numbers
 start = record { units = 0; bindings = 0; cells = []; numbers = [] }
 
+abbrev pub ended : Returned → ℕ → State → Outcome (Unit {0})  -- no rule fits a program that returns
+ended none p s = ok tt s
+ended (some v) p s = halt no-rule p s
+
 abbrev pub run : Limits → Block → Outcome (Unit {0})  -- (PROG) a program is its block, run from no bindings, no cells and no numbers
-run L b = in-block (level L (L .depth)) b empty start
+run L b = bind (in-block (level L (L .depth)) b empty start) λ o s. ended o (place-block b) s

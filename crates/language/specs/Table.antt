@@ -1,6 +1,6 @@
 -- The tree that comes back, document 01: a tree's nodes as a forest of kinds and places, `shape`, and the words of a forest, `enc`.
 use Rattle.language.specs.Library.{ℕ, _+_, _*_, List, [], _∷_, _++_, map}
-use Rattle.language.specs.Syntax.{Ident, TypeTree, bool, int, arrow, vec, TypeTrees, one-type, more-types, Arg, arg, ArgP, val-arg, var-arg, Expr, num, name, if-expr, and, or, app, abs, alloc, nth-expr, len, vset, Exprs, one-expr, more-exprs, ExprP, val, adr, Cmds, last, def-then, stat-then, Def, const, fun, fun-rec, var, proc, proc-rec, Stat, echo, set, if-stat, while, call, Block, block}
+use Rattle.language.specs.Syntax.{Ident, TypeTree, bool, int, arrow, vec, TypeTrees, one-type, more-types, Arg, arg, ArgP, val-arg, var-arg, Expr, num, name, if-expr, and, or, app, abs, alloc, nth-expr, len, vset, Exprs, one-expr, more-exprs, ExprP, val, adr, Cmds, last, def-then, stat-then, Def, const, fun, fun-rec, fun-block, fun-rec-block, var, proc, proc-rec, Stat, echo, set, if-stat, while, call, return, Block, block}
 use Rattle.language.specs.Places.{place-ident}
 
 pub data Forest : Type 0 where  -- a node without children, or with them; then the siblings that follow it
@@ -8,7 +8,7 @@ pub data Forest : Type 0 where  -- a node without children, or with them; then t
   leaf : (kind place : ℕ) → (next : Forest) → Forest
   fork : (kind place : ℕ) → (kids next : Forest) → Forest
 
--- The nodes of a tree, with those of `s` behind them: kinds are document 01's and, from 26 on, request 5's; children stand in the grammar's order.
+-- The nodes of a tree, with those of `s` behind them: kinds are document 01's and, from 26 on, those of requests 5 and 8; children stand in the grammar's order.
 abbrev pub ident : Ident → Forest → Forest
 ident x s = leaf 19 (place-ident x) s
 
@@ -74,6 +74,8 @@ unfoldable mutual
   shapeDef (const p x t e) s = fork 2 p (ident x (shapeType t (shapeExpr e none))) s
   shapeDef (fun p x t a e) s = fork 3 p (ident x (shapeType t (shapeArgs a (shapeExpr e none)))) s
   shapeDef (fun-rec p x t a e) s = fork 4 p (ident x (shapeType t (shapeArgs a (shapeExpr e none)))) s
+  shapeDef (fun-block p x t a b) s = fork 32 p (ident x (shapeType t (shapeArgs a (shapeBlock b none)))) s
+  shapeDef (fun-rec-block p x t a b) s = fork 33 p (ident x (shapeType t (shapeArgs a (shapeBlock b none)))) s
   shapeDef (var p x t) s = fork 5 p (ident x (shapeType t none)) s
   shapeDef (proc p x a b) s = fork 6 p (ident x (shapeArgsP a (shapeBlock b none))) s
   shapeDef (proc-rec p x a b) s = fork 7 p (ident x (shapeArgsP a (shapeBlock b none))) s
@@ -84,6 +86,7 @@ unfoldable mutual
   shapeStat (if-stat p e b c) s = fork 10 p (shapeExpr e (shapeBlock b (shapeBlock c none))) s
   shapeStat (while p e b) s = fork 11 p (shapeExpr e (shapeBlock b none)) s
   shapeStat (call p x a) s = fork 12 p (ident x (shapeExprsP a none)) s
+  shapeStat (return p e) s = fork 31 p (shapeExpr e none) s
 
   pub shapeBlock : Block → Forest → Forest
   shapeBlock (block p c) s = fork 1 p (shapeCmds c none) s

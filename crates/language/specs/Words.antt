@@ -8,7 +8,7 @@ use Rattle.language.specs.Numbers.{in-range}
 
 pub data Mark : Type 0 where  -- the symbols and the key words
   kLbr kRbr kLpar kRpar kSemi kColon kComma kStar kArrow : Mark
-  kCONST kFUN kREC kVAR kPROC kECHO kSET kIF kWHILE kCALL kif kand kor kbool kint kvar kadr kvec kalloc knth klen kvset : Mark
+  kCONST kFUN kREC kVAR kPROC kECHO kSET kIF kWHILE kCALL kRETURN kif kand kor kbool kint kvar kadr kvec kalloc knth klen kvset : Mark
 
 pub data Word : Type 0 where  -- a word of a text, with the place of its first byte
   mark : Mark → (place : ℕ) → Word
@@ -48,7 +48,7 @@ symbols =
 abbrev pub keyWords : List Spelling
 keyWords =
     means "CONST" kCONST ∷ means "FUN" kFUN ∷ means "REC" kREC ∷ means "VAR" kVAR ∷ means "PROC" kPROC
-    ∷ means "ECHO" kECHO ∷ means "SET" kSET ∷ means "IF" kIF ∷ means "WHILE" kWHILE ∷ means "CALL" kCALL
+    ∷ means "ECHO" kECHO ∷ means "SET" kSET ∷ means "IF" kIF ∷ means "WHILE" kWHILE ∷ means "CALL" kCALL ∷ means "RETURN" kRETURN
     ∷ means "if" kif ∷ means "and" kand ∷ means "or" kor ∷ means "bool" kbool ∷ means "int" kint ∷ means "var" kvar ∷ means "adr" kadr
     ∷ means "vec" kvec ∷ means "alloc" kalloc ∷ means "nth" knth ∷ means "len" klen ∷ means "vset" kvset ∷ []
 

@@ -6,7 +6,7 @@ use Rattle.language.specs.Answers.{BYTE, NUMBER, SYNTAX, LEVEL, TYPE, FUEL, DEP
 use Rattle.language.specs.Names.{meaning}
 use Rattle.language.specs.Words.{wordsFrom}
 use Rattle.language.specs.Limits.{greatest-limits}
-use Rattle.language.specs.Rules.{bind, need, within, branch, give, give-cell, level}
+use Rattle.language.specs.Rules.{bind, need, unless-returned, within, branch, give, give-cell, level}
 use Rattle.language.specs.Outcome.{refusal-report}
 use Rattle.language.specs.Desk.{Case, AllHold, case, ends, limited}
 use Rattle.language.proofs.reading.Machine.{set-sib, link, add-leaf, add-fork, retype, parse}
@@ -121,7 +121,7 @@ scripts =
     []
 
 scripts-computed : AllComputed scripts
-unfolding outcome verdict judged-text judged-tree read wordsFrom parse add-leaf add-fork link set-sib retype descent past deep level bind need within branch give give-cell meaning andThen judged only passes single same-type judge-type judge-after judge-expr judge-arg judge-args judge-cmds
+unfolding outcome verdict judged-text judged-tree read wordsFrom parse add-leaf add-fork link set-sib retype descent past deep level bind need unless-returned within branch give give-cell meaning andThen judged only passes single same-type judge-type judge-after judge-expr judge-arg judge-args judge-cmds
 scripts-computed =
     (refl, (refl, (refl, (refl, (refl, (refl, (refl, (refl, (refl, (refl, (refl, (refl, (refl, (refl, (refl, (refl, (refl, (refl, (refl, (refl, (refl, (refl, (refl, (refl, (refl, (refl, (refl, (refl, (refl, (refl, (refl, (refl, (refl, (refl, (refl, (refl, (refl, (refl, (refl, (refl, (refl, (refl, (refl, (refl, (refl, (refl, (refl, (refl, (refl, (refl, tt))))))))))))))))))))))))))))))))))))))))))))))))))
 

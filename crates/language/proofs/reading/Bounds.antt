@@ -22,7 +22,7 @@ pub data End : Type 0 where
 
 abbrev pub fireB : Rule → Word → List Word → (q : ℕ) (u : Ctx) → List Entry → List Node → (List Entry → List Node → End) → End
 fireB (rule j a ps ns) x ts q u s t go =
-    cond (ltb deepest (opened ps u)) (too-deep (x ∷ ts)) (go (places ps (suc (length t)) q u (follow ns (suc (length t)) u s)) (act a (place-word x) q t))
+    cond (ltb deepest (opened ps u)) (too-deep (x ∷ ts)) (go (places ps (suc (length t)) q u (follow ns (suc (length t)) u s)) (act a (place-word x) q u t))
 
 unfoldable pub bounded : List Word → List Entry → List Node → End
 bounded [] [] t = finished t

@@ -67,7 +67,7 @@ climb (x ∷ ts) (ent X q u ∷ s) t f = go (pick (tag x) (rules X)) (λ s′ t�
     go none ih = ([], refl, λ d a. tt)
     go (some (rule j a ps ns)) ih =
         let n = suc (length t) in
-        let w = ih (places ps n q u (follow ns n u s)) (Machine.act a (place-word x) q t) (λ l. f (opened ps u ∷ l)) in (
+        let w = ih (places ps n q u (follow ns n u s)) (Machine.act a (place-word x) q u t) (λ l. f (opened ps u ∷ l)) in (
           opened ps u ∷ w .0,
           w .1,
           λ d b.

@@ -4,8 +4,8 @@ use mathlib.Core.Bool.{cond}
 use Prim.Native.Nat.{ℕ, zero, suc, _*_}
 use lib.Dec.{eqb}
 use lib.ListN.{length}
-use Rattle.language.specs.Syntax.{Ident, TypeTree, bool, int, arrow, vec, TypeTrees, one-type, more-types, Arg, arg, ArgP, val-arg, var-arg, Expr, num, name, if-expr, and, or, app, abs, alloc, nth-expr, len, vset, Exprs, one-expr, more-exprs, ExprP, val, adr, Cmds, last, def-then, stat-then, Def, const, fun, fun-rec, var, proc, proc-rec, Stat, echo, set, if-stat, while, call, Block, block}
-use Rattle.language.specs.Words.{Mark, kLbr, kRbr, kLpar, kRpar, kSemi, kColon, kComma, kStar, kArrow, kCONST, kFUN, kREC, kVAR, kPROC, kECHO, kSET, kIF, kWHILE, kCALL, kif, kand, kor, kbool, kint, kvar, kadr, kvec, kalloc, knth, klen, kvset, Word, mark, number, named}
+use Rattle.language.specs.Syntax.{Ident, TypeTree, bool, int, arrow, vec, TypeTrees, one-type, more-types, Arg, arg, ArgP, val-arg, var-arg, Expr, num, name, if-expr, and, or, app, abs, alloc, nth-expr, len, vset, Exprs, one-expr, more-exprs, ExprP, val, adr, Cmds, last, def-then, stat-then, Def, const, fun, fun-rec, fun-block, fun-rec-block, var, proc, proc-rec, Stat, echo, set, if-stat, while, call, return, Block, block}
+use Rattle.language.specs.Words.{Mark, kLbr, kRbr, kLpar, kRpar, kSemi, kColon, kComma, kStar, kArrow, kCONST, kFUN, kREC, kVAR, kPROC, kECHO, kSET, kIF, kWHILE, kCALL, kRETURN, kif, kand, kor, kbool, kint, kvar, kadr, kvec, kalloc, knth, klen, kvset, Word, mark, number, named}
 use Rattle.language.proofs.reading.Machine.{code}
 
 -- nothing read, or a value and the words that are left
@@ -117,10 +117,11 @@ statOf L ts =
     (orElse (andThen (expect kWHILE ts) λ p us. andThen (L .expr us) λ e vs. andThen (L .block vs) λ b r. got (while p e b) r)
     (andThen (expect kCALL ts) λ p us. andThen (ident us) λ x vs. andThen (L .exprsp vs) λ a r. got (call p x a) r))))
 
--- after FUN or FUN REC, after PROC or PROC REC
-abbrev pub funOf : Level → (Ident → TypeTree → List Arg → Expr → Def) → List Word → Got Def
-funOf L make ts =
-    andThen (ident ts) λ x us. andThen (L .type us) λ t vs. andThen (expect kLbr vs) λ i ws. andThen (L .args ws) λ a xs. andThen (expect kRbr xs) λ j ys. andThen (L .expr ys) λ e r. got (make x t a e) r
+-- after FUN or FUN REC, with an expression or with a block; after PROC or PROC REC
+abbrev pub funOf : Level → (Ident → TypeTree → List Arg → Expr → Def) → (Ident → TypeTree → List Arg → Block → Def) → List Word → Got Def
+funOf L make commands ts =
+    andThen (ident ts) λ x us. andThen (L .type us) λ t vs. andThen (expect kLbr vs) λ i ws. andThen (L .args ws) λ a xs. andThen (expect kRbr xs) λ j ys.
+    orElse (andThen (L .expr ys) λ e r. got (make x t a e) r) (andThen (L .block ys) λ b r. got (commands x t a b) r)
 
 abbrev pub procOf : Level → (Ident → List ArgP → Block → Def) → List Word → Got Def
 procOf L make ts =
@@ -129,14 +130,15 @@ procOf L make ts =
 abbrev pub defOf : Level → List Word → Got Def
 defOf L ts =
     orElse (andThen (expect kCONST ts) λ p us. andThen (ident us) λ x vs. andThen (L .type vs) λ t ws. andThen (L .expr ws) λ e r. got (const p x t e) r)
-    (orElse (andThen (expect kFUN ts) λ p us. orElse (andThen (expect kREC us) λ i vs. funOf L (fun-rec p) vs) (funOf L (fun p) us))
+    (orElse (andThen (expect kFUN ts) λ p us. orElse (andThen (expect kREC us) λ i vs. funOf L (fun-rec p) (fun-rec-block p) vs) (funOf L (fun p) (fun-block p) us))
     (orElse (andThen (expect kVAR ts) λ p us. andThen (ident us) λ x vs. andThen (L .type vs) λ t r. got (var p x t) r)
     (andThen (expect kPROC ts) λ p us. orElse (andThen (expect kREC us) λ i vs. procOf L (proc-rec p) vs) (procOf L (proc p) us))))
 
 abbrev pub cmdsOf : Level → List Word → Got Cmds
 cmdsOf L ts =
     orElse (andThen (statOf L ts) λ a us. orElse (andThen (expect kSemi us) λ i vs. andThen (L .cmds vs) λ c r. got (stat-then a c) r) (got (last a) us))
-    (andThen (defOf L ts) λ d us. andThen (expect kSemi us) λ i vs. andThen (L .cmds vs) λ c r. got (def-then d c) r)
+    (orElse (andThen (defOf L ts) λ d us. andThen (expect kSemi us) λ i vs. andThen (L .cmds vs) λ c r. got (def-then d c) r)
+    (andThen (expect kRETURN ts) λ p us. andThen (L .expr us) λ e r. got (last (return p e)) r))
 
 abbrev pub blockOf : Level → List Word → Got Block
 blockOf L ts = andThen (expect kLbr ts) λ p us. andThen (L .cmds us) λ c vs. andThen (expect kRbr vs) λ i r. got (block p c) r

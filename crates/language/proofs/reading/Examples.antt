@@ -1,18 +1,22 @@
 -- Worked examples: document 01's texts, through `read`, which `only` shows to be the one answer.
 use mathlib.Core.Path.{_≡_, refl}
-use mathlib.Core.List.{[], _∷_}
+use mathlib.Core.List.{List, [], _∷_}
 use lib.IntN.{pos, negsuc}
 use Rattle.language.specs.Syntax.{at, num, name, app, one-expr, more-exprs, last, def-then, const, echo, set, Block, block}
 use Rattle.language.specs.Bytes.{bytesOf}
-use Rattle.language.specs.Answers.{BYTE, NUMBER, SYNTAX, fine, refuse}
-use Rattle.language.specs.Words.{kLbr, kRbr, kArrow, kECHO, mark, number, named, wordsFrom, wordsOf}
-use Rattle.language.specs.Table.{shapeType, shapeExpr, shapeCmds, size, first, enc, table}
-use Rattle.language.proofs.reading.Machine.{set-sib, link, add-leaf, add-fork, retype, parse}
+use Rattle.language.specs.Answers.{BYTE, NUMBER, SYNTAX, Result, fine, refuse}
+use Rattle.language.specs.Words.{kLbr, kRbr, kArrow, kECHO, Word, mark, number, named, wordsFrom, wordsOf}
+use Rattle.language.specs.Table.{shapeType, shapeExpr, shapeCmds, node, size, first, enc, table}
+use Rattle.language.proofs.reading.Machine.{set-sib, link, add-leaf, add-fork, retype, set-block, blocked, through, parse, whole}
 use Rattle.language.proofs.reading.Descent.{descent}
 use Rattle.language.proofs.reading.Reader.{past, deep, read}
 use Rattle.language.specs.Syntax
 use Rattle.language.specs.Words
 use Rattle.language.proofs.reading.Machine
+
+wordsIn : Result (List Word) → List Word
+wordsIn (fine ts) = ts
+wordsIn (refuse r p) = []
 
 w1 : wordsOf (bytesOf "[ECHO 1]") ≡ fine (mark kLbr 0 ∷ mark kECHO 1 ∷ number 6 (pos 1) ∷ mark kRbr 7 ∷ [])
 unfolding wordsFrom
@@ -53,6 +57,25 @@ r2 = refl
 t1 : table (block 0 (last (echo 1 (num 6 (pos 1))))) ≡ 0x0001000000010000 ∷ 0x0008000100020000 ∷ 0x0012000600000000 ∷ []
 unfolding table enc size first shapeExpr shapeCmds
 t1 = refl
+
+-- a function with a block: its tree, and its table with the kinds 32 FUN, 1 block and 31 RETURN
+r-returns : read (bytesOf "[FUN f int [x:int] [RETURN x]; ECHO (f 3)]")
+    ≡ fine
+    (block 0
+    (def-then
+    (Syntax.fun-block 1 (at 5 (bytesOf "f")) (Syntax.int 7) (Syntax.arg (at 12 (bytesOf "x")) (Syntax.int 14) ∷ [])
+    (block 19 (last (Syntax.return 20 (name (at 27 (bytesOf "x")))))))
+    (last (echo 31 (app 36 (name (at 37 (bytesOf "f"))) (one-expr (num 39 (pos 3))))))))
+unfolding read wordsFrom parse add-leaf add-fork link set-sib retype descent past deep
+r-returns = refl
+
+t-returns : whole (wordsIn (wordsOf (bytesOf "[FUN f int [x:int] [RETURN x]; ECHO (f 3)]")))
+    ≡ through
+    (node 1 0 1 0 ∷ node 32 1 2 9 ∷ node 19 5 0 3 ∷ node 16 7 0 4 ∷ node 13 12 5 6 ∷ node 16 14 0 0 ∷ node 1 19 7 0 ∷ node 31 20 8 0 ∷ node 19 27 0 0
+    ∷ node 8 31 10 0 ∷ node 23 36 11 0 ∷ node 19 37 0 12 ∷ node 18 39 0 0 ∷ [])
+    (1 ∷ 0 ∷ 0 ∷ 0 ∷ 0 ∷ 0 ∷ 0 ∷ 0 ∷ 0 ∷ 2 ∷ 0 ∷ 0 ∷ 0 ∷ 0 ∷ 0 ∷ 2 ∷ 0 ∷ 0 ∷ 0 ∷ 0 ∷ [])
+unfolding wordsIn wordsFrom parse add-leaf add-fork link set-sib retype set-block blocked
+t-returns = refl
 
 -- a tree in full: `[CONST x int 0; SET x 42]`
 r3 : read (bytesOf "[CONST x int 0; SET x 42]")

@@ -12,7 +12,7 @@ use Rattle.language.specs.Grammar.{BLOCK, Reads, Begins}
 use Rattle.language.specs.Table.{Node}
 use Rattle.language.specs.Levels.{levels}
 use Rattle.language.specs.Reading.{Opens, Ends}
-use Rattle.language.proofs.reading.Machine.{tag, Sym, sBlock, sBody, sTail, sSemi, sCN, sCT, sExpr, sFunH, sFN, sFT, sFL, sArg1, sArg0, sColon, sType, sVN, sProcH, sPN, sPL, sArgp1, sArgp0, sVarN, sSN, sIC, sIB, sWC, sKN, sK1, sK0, sParen, sParenP, sE3, sE2, sE1, sRP, sArgs1, sArgs0, sAN, sTs1, sTs0, sTR, sTP, sAT, Ctx, Entry, ent, places, follow, Rule, rule, rules, pick, Parsed, through, stuck, parse, start, whole}
+use Rattle.language.proofs.reading.Machine.{tag, Sym, sBlock, sBody, sTail, sSemi, sCN, sCT, sExpr, sFunH, sFN, sFT, sFL, sFArg1, sFArg0, sFBody, sFOpen, sEnd, sArg1, sArg0, sColon, sType, sVN, sProcH, sPN, sPL, sArgp1, sArgp0, sVarN, sSN, sIC, sIB, sWC, sKN, sK1, sK0, sParen, sParenP, sE3, sE2, sE1, sRP, sArgs1, sArgs0, sAN, sTs1, sTs0, sTR, sTP, sAT, Ctx, Entry, ent, places, follow, Rule, rule, rules, pick, Parsed, through, stuck, parse, start, whole}
 use Rattle.language.proofs.reading.Reader.{levelsIn}
 use Rattle.language.proofs.reading.Complete.{complete}
 use Rattle.language.proofs.reading.Sound.{sound}
@@ -31,6 +31,11 @@ word sFunH = named (at 0 []) ∷ mark kbool 0 ∷ mark kLbr 0 ∷ named (at 0 []
 word sFN = named (at 0 []) ∷ mark kbool 0 ∷ mark kLbr 0 ∷ named (at 0 []) ∷ mark kColon 0 ∷ mark kbool 0 ∷ mark kRbr 0 ∷ number 0 (pos 0) ∷ []
 word sFT = mark kbool 0 ∷ mark kLbr 0 ∷ named (at 0 []) ∷ mark kColon 0 ∷ mark kbool 0 ∷ mark kRbr 0 ∷ number 0 (pos 0) ∷ []
 word sFL = mark kLbr 0 ∷ named (at 0 []) ∷ mark kColon 0 ∷ mark kbool 0 ∷ mark kRbr 0 ∷ number 0 (pos 0) ∷ []
+word sFArg1 = named (at 0 []) ∷ mark kColon 0 ∷ mark kbool 0 ∷ mark kRbr 0 ∷ number 0 (pos 0) ∷ []
+word sFArg0 = mark kRbr 0 ∷ number 0 (pos 0) ∷ []
+word sFBody = number 0 (pos 0) ∷ []
+word sFOpen = mark kECHO 0 ∷ number 0 (pos 0) ∷ mark kRbr 0 ∷ []
+word sEnd = mark kRbr 0 ∷ []
 word sArg1 = named (at 0 []) ∷ mark kColon 0 ∷ mark kbool 0 ∷ mark kRbr 0 ∷ number 0 (pos 0) ∷ []
 word sArg0 = mark kRbr 0 ∷ number 0 (pos 0) ∷ []
 word sColon = mark kColon 0 ∷ mark kbool 0 ∷ []
@@ -78,6 +83,11 @@ word-read sFunH q u s t f = (_, _, λ w. refl)
 word-read sFN q u s t f = (_, _, λ w. refl)
 word-read sFT q u s t f = (_, _, λ w. refl)
 word-read sFL q u s t f = (_, _, λ w. refl)
+word-read sFArg1 q u s t f = (_, _, λ w. refl)
+word-read sFArg0 q u s t f = (_, _, λ w. refl)
+word-read sFBody q u s t f = (_, _, λ w. refl)
+word-read sFOpen q u s t f = (_, _, λ w. refl)
+word-read sEnd q u s t f = (_, _, λ w. refl)
 word-read sArg1 q u s t f = (_, _, λ w. refl)
 word-read sArg0 q u s t f = (_, _, λ w. refl)
 word-read sColon q u s t f = (_, _, λ w. refl)
@@ -135,7 +145,7 @@ at-nil s t f = record { stack = s; tab = t; count = f; opened = []; moves = λ r
 
 module _ {x : Word} {pre : List Word} {X : Sym} {q : ℕ} {u : Ctx} {s : List Entry} {t : List Node} {f : List ℕ → List ℕ} where
   at-step : (j : ℕ) (a : Machine.Act) (ps : Option Machine.Push) (ns : Option Sym) → pick (tag x) (rules X) ≡ some (rule j a ps ns)
-      → At pre (places ps (suc (length t)) q u (follow ns (suc (length t)) u s)) (Machine.act a (place-word x) q t) (λ l. f (Machine.opened ps u ∷ l))
+      → At pre (places ps (suc (length t)) q u (follow ns (suc (length t)) u s)) (Machine.act a (place-word x) q u t) (λ l. f (Machine.opened ps u ∷ l))
       → At (x ∷ pre) (ent X q u ∷ s) t f
   unfolding parse
   at-step j a ps ns e w =

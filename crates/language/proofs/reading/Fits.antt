@@ -9,24 +9,20 @@ use Rattle.language.specs.Syntax.{Block}
 use Rattle.language.specs.Words.{Word, place-word}
 use Rattle.language.specs.Grammar.{BLOCK, Reads}
 use Rattle.language.specs.Table.{Forest, shapeBlock, Node, node, wordOf, enc, table}
-use Rattle.language.proofs.reading.Machine.{tag, link, add-leaf, add-fork, retype, Entry, ent, Act, act, Rule, rule, rules, pick, Parsed, through, stuck, parse, start}
+use Rattle.language.proofs.reading.Machine.{tag, link, add-leaf, add-fork, retype, blocked, Ctx, cal, Entry, ent, Act, act, Rule, rule, rules, pick, Parsed, through, stuck, parse, start}
 use Rattle.language.proofs.reading.First.{no-stop}
-use Rattle.language.proofs.reading.Written.{length-link, written}
+use Rattle.language.proofs.reading.Kinds.{length-link, length-retype, length-blocked, length-fork}
+use Rattle.language.proofs.reading.Written.{written}
 use Rattle.language.proofs.reading.Machine
 
-length-retype : (k : ℕ) (t : List Node) → length (retype k t) ≡ length t
-unfolding retype
-length-retype k [] = refl
-length-retype k (x ∷ []) = refl
-length-retype k (x ∷ y ∷ t) = ap suc (length-retype k (y ∷ t))
-
 -- a rule makes at most one node
-one-node : (a : Act) (p q : ℕ) (t : List Node) → length (act a p q t) ≤ suc (length t)
+one-node : (a : Act) (p q : ℕ) (u : Ctx) (t : List Node) → length (act a p q u t) ≤ suc (length t)
 unfolding add-leaf add-fork
-one-node Machine.skip p q t = omega arith
-one-node (Machine.leaf k) p q t = omega (arith, length-append (link q (length t) t) (node k p 0 0 ∷ []), length-link q (length t) t)
-one-node (Machine.fork k) p q t = omega (arith, length-append (link q (length t) t) (node k p (suc (length t)) 0 ∷ []), length-link q (length t) t)
-one-node (Machine.turn k) p q t = omega (arith, length-retype k t)
+one-node Machine.skip p q u t = omega arith
+one-node (Machine.leaf k) p q u t = omega (arith, length-append (link q (length t) t) (node k p 0 0 ∷ []), length-link q (length t) t)
+one-node (Machine.fork k) p q u t = omega (arith, length-append (link q (length t) t) (node k p (suc (length t)) 0 ∷ []), length-link q (length t) t)
+one-node (Machine.turn k) p q u t = omega (arith, length-retype k t)
+one-node (Machine.lead k) p q u t = omega (arith, length-fork k p q (blocked (cal u) (retype 1 t)), length-blocked (cal u) (retype 1 t), length-retype 1 t)
 
 pub done-table : {t t′ : List Node} {o o′ : List ℕ} → through t o ≡ through t′ o′ → t ≡ t′
 done-table e = cc
@@ -45,7 +41,7 @@ few-nodes (x ∷ ts) (ent X q u ∷ s) t f t′ o e = go (pick (tag x) (rules X)
     go none e′ ih = absurd (no-stop e′)
     go (some (rule j a ps ns)) e′ ih =
         let w = ih _ _ _ e′ in
-        let n = one-node a (place-word x) q t in
+        let n = one-node a (place-word x) q u t in
         omega (arith, w, n)
 
 length-map : (l : List Node) → length (map wordOf l) ≡ length l

@@ -3,10 +3,10 @@
 use mathlib.Core.List.{List, [], _∷_, _++_}
 use mathlib.Core.Option.{Option, none, some}
 use mathlib.Core.Bool.{cond}
-use Prim.Native.Nat.{ℕ, zero, suc}
+use Prim.Native.Nat.{ℕ, zero, suc, _+_}
 use lib.ListN.{length}
 use lib.Dec.{eqb}
-use Rattle.language.specs.Words.{Mark, kLbr, kRbr, kLpar, kRpar, kSemi, kColon, kComma, kStar, kArrow, kCONST, kFUN, kREC, kVAR, kPROC, kECHO, kSET, kIF, kWHILE, kCALL, kif, kand, kor, kbool, kint, kvar, kadr, kvec, kalloc, knth, klen, kvset, Word, mark, number, named, place-word}
+use Rattle.language.specs.Words.{Mark, kLbr, kRbr, kLpar, kRpar, kSemi, kColon, kComma, kStar, kArrow, kCONST, kFUN, kREC, kVAR, kPROC, kECHO, kSET, kIF, kWHILE, kCALL, kRETURN, kif, kand, kor, kbool, kint, kvar, kadr, kvec, kalloc, knth, klen, kvset, Word, mark, number, named, place-word}
 use Rattle.language.specs.Table.{Forest, Node, node}
 
 -- The kinds of words as numbers.
@@ -42,6 +42,7 @@ code kalloc = 30
 code knth = 31
 code klen = 32
 code kvset = 33
+code kRETURN = 34
 
 abbrev pub tNum : ℕ
 tNum = 27
@@ -81,16 +82,29 @@ retype j [] = []
 retype j (x ∷ []) = rekind j x ∷ []
 retype j (x ∷ y ∷ t) = x ∷ retype j (y ∷ t)
 
+-- A function's node whose body turns out to be a block: 3 FUN becomes 32, 4 FUN REC becomes 33. The node is found by its link.
+abbrev pub with-block : Node → Node
+with-block (node k p c s) = node (29 + k) p c s
+
+unfoldable pub set-block : ℕ → List Node → List Node
+set-block i [] = []
+set-block zero (x ∷ t) = with-block x ∷ t
+set-block (suc i) (x ∷ t) = x ∷ set-block i t
+
+unfoldable pub blocked : ℕ → List Node → List Node
+blocked zero t = t
+blocked (suc i) t = set-block i t
+
 unfoldable pub put : Forest → ℕ → List Node → List Node
 put Forest.none q t = t
 put (Forest.leaf k p s) q t = put s (suc (length t)) (add-leaf k p q t)
 put (Forest.fork k p c s) q t = put s (suc (length t)) (put c 0 (add-fork k p q t))
 
 pub data Sym : Type 0 where
-  sBlock sBody sTail sSemi sCN sCT sExpr sFunH sFN sFT sFL sArg1 sArg0 sColon sType sVN sProcH sPN sPL sArgp1 sArgp0 sVarN : Sym
+  sBlock sBody sTail sSemi sCN sCT sExpr sFunH sFN sFT sFL sFArg1 sFArg0 sFBody sFOpen sEnd sArg1 sArg0 sColon sType sVN sProcH sPN sPL sArgp1 sArgp0 sVarN : Sym
   sSN sIC sIB sWC sKN sK1 sK0 sParen sParenP sE3 sE2 sE1 sRP sArgs1 sArgs0 sAN sTs1 sTs0 sTR sTP sAT : Sym
 
--- the CALL that an entry stands in, and its level
+-- the CALL or the function's head that an entry stands in, and its level
 pub data Ctx : Type 0 where
   ctx : ℕ → ℕ → Ctx
 
@@ -108,15 +122,17 @@ pub data Entry : Type 0 where
 
 pub data Act : Type 0 where
   skip : Act
-  leaf fork turn : ℕ → Act
+  leaf fork turn lead : ℕ → Act
 
-abbrev pub act : Act → (p q : ℕ) → List Node → List Node
-act skip p q t = t
-act (leaf k) p q t = add-leaf k p q t
-act (fork k) p q t = add-fork k p q t
-act (turn k) p q t = retype k t
+-- `lead`: the first command of a function's block. The bracket before it was written as an abstraction's and is a block's, and the function has a block
+abbrev pub act : Act → (p q : ℕ) → Ctx → List Node → List Node
+act skip p q u t = t
+act (leaf k) p q u t = add-leaf k p q t
+act (fork k) p q u t = add-fork k p q t
+act (turn k) p q u t = retype k t
+act (lead k) p q u t = add-fork k p q (blocked (cal u) (retype 1 t))
 
--- How an entry is pushed: as the first child; with the same sibling before it; a body, after the sibling or after the CALL; in a CALL.
+-- How an entry is pushed: as the first child; with the same sibling before it; a body, after the sibling or after the CALL; in a CALL or a function's head.
 pub data Push : Type 0 where
   kid deep same body back call : Sym → Push
 
@@ -169,15 +185,15 @@ vec-rules = rule (code kvec) (turn 26) (some (same sTR)) none ∷ []
 abbrev pub block-rules : List Rule
 block-rules = rule (code kLbr) (fork 1) (some (deep sBody)) none ∷ []
 
--- an expression; `P` is what follows its parenthesis
-abbrev pub ex-rules : Sym → List Rule
-ex-rules P = rule tNum (leaf 18) none none ∷ rule tName (leaf 19) none none ∷ rule (code kLpar) (fork 23) (some (deep P)) none ∷ rule (code kLbr) (fork 24) (some (deep sArg1)) none ∷ []
+-- an expression; `P` is what follows its parenthesis, `A` what follows its bracket
+abbrev pub ex-rules : Sym → Sym → List Rule
+ex-rules P A = rule tNum (leaf 18) none none ∷ rule tName (leaf 19) none none ∷ rule (code kLpar) (fork 23) (some (deep P)) none ∷ rule (code kLbr) (fork 24) (some (deep A)) none ∷ []
 
 abbrev pub expr-rules : List Rule
-expr-rules = ex-rules sParen
+expr-rules = ex-rules sParen sArg1
 
 abbrev pub exprp-rules : List Rule
-exprp-rules = ex-rules sParenP
+exprp-rules = ex-rules sParenP sArg1
 
 abbrev pub arg-rules : List Rule
 arg-rules = rule tName (fork 13) (some (kid sColon)) none ∷ []
@@ -206,7 +222,7 @@ call-rules = rule (code kSemi) skip (some (back sBody)) none ∷ rule (code kRbr
 abbrev pub body-rules : List Rule
 body-rules =
     rule (code kCONST) (fork 2) (some (kid sCN)) (some sSemi)
-    ∷ rule (code kFUN) (fork 3) (some (kid sFunH)) (some sSemi)
+    ∷ rule (code kFUN) (fork 3) (some (call sFunH)) (some sSemi)
     ∷ rule (code kVAR) (fork 5) (some (kid sVN)) (some sSemi)
     ∷ rule (code kPROC) (fork 6) (some (kid sProcH)) (some sSemi)
     ∷ rule (code kECHO) (fork 8) (some (kid sExpr)) (some sTail)
@@ -214,7 +230,20 @@ body-rules =
     ∷ rule (code kIF) (fork 10) (some (kid sIC)) (some sTail)
     ∷ rule (code kWHILE) (fork 11) (some (kid sWC)) (some sTail)
     ∷ rule (code kCALL) (fork 12) (some (call sKN)) none
+    ∷ rule (code kRETURN) (fork 31) (some (kid sExpr)) (some sEnd)
     ∷ []
+
+-- the same where they are the first of a function's block
+abbrev pub opening : Act → Act
+opening skip = skip
+opening (leaf k) = leaf k
+opening (fork k) = lead k
+opening (turn k) = turn k
+opening (lead k) = lead k
+
+abbrev pub first-rules : List Rule → List Rule
+first-rules [] = []
+first-rules (rule k a ps ns ∷ rs) = rule k (opening a) ps ns ∷ first-rules rs
 
 abbrev pub rules : Sym → List Rule
 rules sBlock = thn none block-rules ++ []
@@ -227,7 +256,12 @@ rules sExpr = thn none expr-rules ++ []
 rules sFunH = thn (some sFT) name-rules ++ rec-rules 4 sFN
 rules sFN = thn (some sFT) name-rules ++ []
 rules sFT = thn (some sFL) type-rules ++ []
-rules sFL = rule (code kLbr) skip (some (same sArg1)) none ∷ []
+rules sFL = rule (code kLbr) skip (some (same sFArg1)) none ∷ []
+rules sFArg1 = thn (some sFArg0) arg-rules ++ []
+rules sFArg0 = rule (code kComma) skip (some (same sFArg1)) none ∷ rule (code kRbr) skip (some (same sFBody)) none ∷ []
+rules sFBody = thn none (ex-rules sParen sFOpen) ++ []
+rules sFOpen = thn (some sArg0) arg-rules ++ first-rules body-rules
+rules sEnd = rule (code kRbr) skip none none ∷ []
 rules sArg1 = thn (some sArg0) arg-rules ++ []
 rules sArg0 = rule (code kComma) skip (some (same sArg1)) none ∷ rule (code kRbr) skip (some (same sExpr)) none ∷ []
 rules sColon = rule (code kColon) skip (some (same sType)) none ∷ []
@@ -271,7 +305,7 @@ pub data Parsed : Type 0 where
   stuck : List Word → List ℕ → Parsed
 
 abbrev pub fire : Rule → (p q : ℕ) (u : Ctx) → List Entry → List Node → (List ℕ → List ℕ) → (List Entry → List Node → (List ℕ → List ℕ) → Parsed) → Parsed
-fire (rule j a ps ns) p q u s t f go = go (places ps (suc (length t)) q u (follow ns (suc (length t)) u s)) (act a p q t) (λ l. f (opened ps u ∷ l))
+fire (rule j a ps ns) p q u s t f go = go (places ps (suc (length t)) q u (follow ns (suc (length t)) u s)) (act a p q u t) (λ l. f (opened ps u ∷ l))
 
 -- `f` puts the levels that were opened before those to come
 unfoldable pub parse : List Word → List Entry → List Node → (List ℕ → List ℕ) → Parsed

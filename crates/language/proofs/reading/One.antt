@@ -5,11 +5,11 @@ use Prim.Native.Nat.{ℕ, zero, suc, _+_, _*_, _≤_}
 use native.Mathlib.Omega.{arith}
 use lib.IntN.{ℤ}
 use lib.ListN.{length}
-use Rattle.language.specs.Syntax.{Ident, TypeTree, bool, int, arrow, vec, TypeTrees, one-type, more-types, Arg, arg, ArgP, val-arg, var-arg, Expr, num, name, if-expr, and, or, app, abs, alloc, nth-expr, len, vset, Exprs, one-expr, more-exprs, ExprP, val, adr, Cmds, last, def-then, stat-then, const, fun, fun-rec, var, proc, proc-rec, echo, set, if-stat, while, call, Block, block}
-use Rattle.language.specs.Words.{kLbr, kRbr, kLpar, kRpar, kSemi, kColon, kComma, kStar, kArrow, kCONST, kFUN, kREC, kVAR, kPROC, kECHO, kSET, kIF, kWHILE, kCALL, kif, kand, kor, kbool, kint, kvar, kadr, kvec, kalloc, knth, klen, kvset, Word, mark, number, named}
-use Rattle.language.specs.Grammar.{Sort, BLOCK, CMDS, DEF, STAT, TYPE, TYPES, ARG, ARGS, ARGP, ARGSP, EXPR, EXPRS, EXPRP, EXPRSP, TreeOf, Reads, r-block, r-last, r-def-then, r-stat-then, r-const, r-fun, r-fun-rec, r-var, r-proc, r-proc-rec, r-bool, r-int, r-arrow, r-vec, r-one-type, r-more-types, r-arg, r-one-arg, r-more-args, r-val-arg, r-var-arg, r-one-argp, r-more-argsp, r-echo, r-set, r-if-stat, r-while, r-call, r-one-exprp, r-more-exprsp, r-val, r-adr, r-num, r-name, r-if-expr, r-and, r-or, r-app, r-abs, r-alloc, r-nth, r-len, r-vset, r-one-expr, r-more-exprs}
+use Rattle.language.specs.Syntax.{Ident, TypeTree, bool, int, arrow, vec, TypeTrees, one-type, more-types, Arg, arg, ArgP, val-arg, var-arg, Expr, num, name, if-expr, and, or, app, abs, alloc, nth-expr, len, vset, Exprs, one-expr, more-exprs, ExprP, val, adr, Cmds, last, def-then, stat-then, const, fun, fun-rec, fun-block, fun-rec-block, var, proc, proc-rec, echo, set, if-stat, while, call, return, Block, block}
+use Rattle.language.specs.Words.{kLbr, kRbr, kLpar, kRpar, kSemi, kColon, kComma, kStar, kArrow, kCONST, kFUN, kREC, kVAR, kPROC, kECHO, kSET, kIF, kWHILE, kCALL, kRETURN, kif, kand, kor, kbool, kint, kvar, kadr, kvec, kalloc, knth, klen, kvset, Word, mark, number, named}
+use Rattle.language.specs.Grammar.{Sort, BLOCK, CMDS, DEF, STAT, TYPE, TYPES, ARG, ARGS, ARGP, ARGSP, EXPR, EXPRS, EXPRP, EXPRSP, TreeOf, Reads, r-block, r-last, r-def-then, r-stat-then, r-return, r-const, r-fun, r-fun-rec, r-fun-block, r-fun-rec-block, r-var, r-proc, r-proc-rec, r-bool, r-int, r-arrow, r-vec, r-one-type, r-more-types, r-arg, r-one-arg, r-more-args, r-val-arg, r-var-arg, r-one-argp, r-more-argsp, r-echo, r-set, r-if-stat, r-while, r-call, r-one-exprp, r-more-exprsp, r-val, r-adr, r-num, r-name, r-if-expr, r-and, r-or, r-app, r-abs, r-alloc, r-nth, r-len, r-vset, r-one-expr, r-more-exprs}
 use Rattle.language.proofs.reading.Descent.{miss, got, expect, Level, typeOf, typesOf, argOf, argsOf, argpOf, argspOf, exprOf, exprsOf, exprpOf, exprspOf, statOf, defOf, cmdsOf, blockOf, descent, treeOf}
-use Rattle.language.proofs.reading.Complete.{Lit, lit, Closer, c-semi, c-rbr, closes}
+use Rattle.language.proofs.reading.Complete.{Lit, lit, Closer, c-semi, c-rbr, Begun, begun, closes, begun-cmds}
 
 -- `level m` is deep enough for the words from `ts` to `r`, for a step that takes `d` words less than 4 a word
 abbrev Deep : ℕ → List Word → List Word → ℕ → Type 0
@@ -152,6 +152,13 @@ unfolding descent
 no-or zero i ts = refl
 no-or (suc m) i ts = refl
 
+-- a block is no expression
+no-block : (m p : ℕ) {ts : List Word} → Begun ts → descent m .expr (mark kLbr p ∷ ts) ≡ miss
+unfolding descent
+no-block zero p b = refl
+no-block (suc zero) p b = refl
+no-block (suc (suc m)) p (begun c) = refl
+
 down-block : {p i : ℕ} {c : TreeOf CMDS} {ts r : List Word} → Fact CMDS c ts (mark kRbr i ∷ r) → Fact BLOCK (block p c) (mark kLbr p ∷ ts) r
 unfolding descent
 down-block h = record { less = omega (arith, h .less); get = λ m b. rw (useCmds h _ lit m (omega (arith, b))) refl }
@@ -168,6 +175,10 @@ down-stat-then : {i : ℕ} {a : TreeOf STAT} {c : TreeOf CMDS} {ts us r : List W
 unfolding descent
 down-stat-then h k = record { less = omega (arith, h .less, k .less); get = λ r′ c m b. rw (h .get c-semi m (omega (arith, b, k .less)), useCmds k _ c m (omega (arith, b, h .less))) refl }
 
+down-return : {p : ℕ} {e : TreeOf EXPR} {ts r : List Word} → Fact EXPR e ts r → Fact CMDS (last (return p e)) (mark kRETURN p ∷ ts) r
+unfolding descent
+down-return h = record { less = omega (arith, h .less); get = λ r′ c m b. rw (useExpr h m (omega (arith, b))) refl }
+
 down-const : {p : ℕ} {x : Ident} {t : TreeOf TYPE} {e : TreeOf EXPR} {ts us r : List Word} → Fact TYPE t ts us → Fact EXPR e us r → Fact DEF (const p x t e) (mark kCONST p ∷ named x ∷ ts) r
 unfolding descent
 down-const h k = record { less = omega (arith, h .less, k .less); get = (λ L. refl, λ m b. rw (useType h m (omega (arith, b, k .less)), useExpr k m (omega (arith, b, h .less))) refl) }
@@ -179,6 +190,14 @@ down-fun h k l = record { less = omega (arith, h .less, k .less, l .less); get =
 down-fun-rec : {p i j k : ℕ} {x : Ident} {t : TreeOf TYPE} {a : TreeOf ARGS} {e : TreeOf EXPR} {ts us vs r : List Word} → Fact TYPE t ts (mark kLbr j ∷ us) → Fact ARGS a us (mark kRbr k ∷ vs) → Fact EXPR e vs r → Fact DEF (fun-rec p x t a e) (mark kFUN p ∷ mark kREC i ∷ named x ∷ ts) r
 unfolding descent
 down-fun-rec h k l = record { less = omega (arith, h .less, k .less, l .less); get = (λ L. refl, λ m b. rw (useType h m (omega (arith, b, k .less, l .less)), useArgs k _ lit m (omega (arith, b, h .less, l .less)), useExpr l m (omega (arith, b, h .less, k .less))) refl) }
+
+down-fun-block : {p i j b : ℕ} {x : Ident} {t : TreeOf TYPE} {a : TreeOf ARGS} {c : TreeOf CMDS} {ts us vs r : List Word} → Fact TYPE t ts (mark kLbr i ∷ us) → Fact ARGS a us (mark kRbr j ∷ mark kLbr b ∷ vs) → Begun vs → Fact BLOCK (block b c) (mark kLbr b ∷ vs) r → Fact DEF (fun-block p x t a (block b c)) (mark kFUN p ∷ named x ∷ ts) r
+unfolding descent
+down-fun-block {b = z} h k n l = record { less = omega (arith, h .less, k .less, l .less); get = (λ L. refl, λ m b. rw (useType h m (omega (arith, b, k .less, l .less)), useArgs k _ lit m (omega (arith, b, h .less, l .less)), no-block m z n, useBlock l m (omega (arith, b, h .less, k .less))) refl) }
+
+down-fun-rec-block : {p i j k b : ℕ} {x : Ident} {t : TreeOf TYPE} {a : TreeOf ARGS} {c : TreeOf CMDS} {ts us vs r : List Word} → Fact TYPE t ts (mark kLbr j ∷ us) → Fact ARGS a us (mark kRbr k ∷ mark kLbr b ∷ vs) → Begun vs → Fact BLOCK (block b c) (mark kLbr b ∷ vs) r → Fact DEF (fun-rec-block p x t a (block b c)) (mark kFUN p ∷ mark kREC i ∷ named x ∷ ts) r
+unfolding descent
+down-fun-rec-block {b = z} h k n l = record { less = omega (arith, h .less, k .less, l .less); get = (λ L. refl, λ m b. rw (useType h m (omega (arith, b, k .less, l .less)), useArgs k _ lit m (omega (arith, b, h .less, l .less)), no-block m z n, useBlock l m (omega (arith, b, h .less, k .less))) refl) }
 
 down-var : {p : ℕ} {x : Ident} {t : TreeOf TYPE} {ts r : List Word} → Fact TYPE t ts r → Fact DEF (var p x t) (mark kVAR p ∷ named x ∷ ts) r
 unfolding descent
@@ -337,9 +356,12 @@ descends (r-block h) = down-block (descends h)
 descends (r-last h) = down-last (descends h)
 descends (r-def-then h k) = down-def-then (descends h) (descends k)
 descends (r-stat-then h k) = down-stat-then (descends h) (descends k)
+descends (r-return h) = down-return (descends h)
 descends (r-const h k) = down-const (descends h) (descends k)
 descends (r-fun h k l) = down-fun (descends h) (descends k) (descends l)
 descends (r-fun-rec h k l) = down-fun-rec (descends h) (descends k) (descends l)
+descends (r-fun-block h k (r-block l)) = down-fun-block (descends h) (descends k) (begun-cmds l) (down-block (descends l))
+descends (r-fun-rec-block h k (r-block l)) = down-fun-rec-block (descends h) (descends k) (begun-cmds l) (down-block (descends l))
 descends (r-var h) = down-var (descends h)
 descends (r-proc h k) = down-proc (descends h) (descends k)
 descends (r-proc-rec h k) = down-proc-rec (descends h) (descends k)

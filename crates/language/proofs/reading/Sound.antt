@@ -9,10 +9,10 @@ use native.Mathlib.Omega.{arith}
 use lib.IntN.{ℤ}
 use lib.ListN.{length}
 use Rattle.language.specs.Syntax.{Ident}
-use Rattle.language.specs.Words.{Mark, kLbr, kRbr, kLpar, kRpar, kSemi, kColon, kComma, kStar, kArrow, kCONST, kFUN, kREC, kVAR, kPROC, kECHO, kSET, kIF, kWHILE, kCALL, kif, kand, kor, kbool, kint, kvar, kadr, kvec, kalloc, knth, klen, kvset, Word, mark, number, named, place-word}
-use Rattle.language.specs.Grammar.{Sort, BLOCK, CMDS, DEF, STAT, TYPE, TYPES, ARG, ARGS, ARGP, ARGSP, EXPR, EXPRS, EXPRP, EXPRSP, TreeOf, Reads, r-block, r-last, r-def-then, r-stat-then, r-const, r-fun, r-fun-rec, r-var, r-proc, r-proc-rec, r-bool, r-int, r-arrow, r-vec, r-one-type, r-more-types, r-arg, r-one-arg, r-more-args, r-val-arg, r-var-arg, r-one-argp, r-more-argsp, r-echo, r-set, r-if-stat, r-while, r-call, r-one-exprp, r-more-exprsp, r-val, r-adr, r-num, r-name, r-if-expr, r-and, r-or, r-app, r-abs, r-alloc, r-nth, r-len, r-vset, r-one-expr, r-more-exprs, Program}
+use Rattle.language.specs.Words.{Mark, kLbr, kRbr, kLpar, kRpar, kSemi, kColon, kComma, kStar, kArrow, kCONST, kFUN, kREC, kVAR, kPROC, kECHO, kSET, kIF, kWHILE, kCALL, kRETURN, kif, kand, kor, kbool, kint, kvar, kadr, kvec, kalloc, knth, klen, kvset, Word, mark, number, named, place-word}
+use Rattle.language.specs.Grammar.{Sort, BLOCK, CMDS, DEF, STAT, TYPE, TYPES, ARG, ARGS, ARGP, ARGSP, EXPR, EXPRS, EXPRP, EXPRSP, TreeOf, Reads, r-block, r-last, r-def-then, r-stat-then, r-return, r-const, r-fun, r-fun-rec, r-fun-block, r-fun-rec-block, r-var, r-proc, r-proc-rec, r-bool, r-int, r-arrow, r-vec, r-one-type, r-more-types, r-arg, r-one-arg, r-more-args, r-val-arg, r-var-arg, r-one-argp, r-more-argsp, r-echo, r-set, r-if-stat, r-while, r-call, r-one-exprp, r-more-exprsp, r-val, r-adr, r-num, r-name, r-if-expr, r-and, r-or, r-app, r-abs, r-alloc, r-nth, r-len, r-vset, r-one-expr, r-more-exprs, Program}
 use Rattle.language.specs.Table.{Node}
-use Rattle.language.proofs.reading.Machine.{code, tNum, tName, tag, Sym, sBlock, sBody, sTail, sSemi, sCN, sCT, sExpr, sFunH, sFN, sFT, sFL, sArg1, sArg0, sColon, sType, sVN, sProcH, sPN, sPL, sArgp1, sArgp0, sVarN, sSN, sIC, sIB, sWC, sKN, sK1, sK0, sParen, sParenP, sE3, sE2, sE1, sRP, sArgs1, sArgs0, sAN, sTs1, sTs0, sTR, sTP, sAT, Ctx, Entry, ent, places, follow, Rule, rule, thn, name-rules, type-rules, vec-rules, block-rules, expr-rules, exprp-rules, arg-rules, argp-rules, paren-rules, adr-rules, rec-rules, args-rules, call-rules, body-rules, rules, pick, Parsed, through, stuck, parse, start, whole}
+use Rattle.language.proofs.reading.Machine.{code, tNum, tName, tag, Sym, sBlock, sBody, sTail, sSemi, sCN, sCT, sExpr, sFunH, sFN, sFT, sFL, sFArg1, sFArg0, sFBody, sFOpen, sEnd, sArg1, sArg0, sColon, sType, sVN, sProcH, sPN, sPL, sArgp1, sArgp0, sVarN, sSN, sIC, sIB, sWC, sKN, sK1, sK0, sParen, sParenP, sE3, sE2, sE1, sRP, sArgs1, sArgs0, sAN, sTs1, sTs0, sTR, sTP, sAT, Ctx, Entry, ent, places, follow, Rule, rule, thn, name-rules, type-rules, vec-rules, block-rules, ex-rules, expr-rules, exprp-rules, arg-rules, argp-rules, paren-rules, adr-rules, rec-rules, args-rules, call-rules, body-rules, first-rules, rules, pick, Parsed, through, stuck, parse, start, whole}
 use Rattle.language.proofs.reading.Complete.{Lit, lit}
 use Rattle.language.proofs.reading.Machine
 
@@ -24,7 +24,7 @@ nth (suc n) (m ∷ ms) = nth n ms
 
 uncode : ℕ → Option Mark
 uncode zero = none
-uncode (suc n) = nth n (map some (kLbr ∷ kRbr ∷ kLpar ∷ kRpar ∷ kSemi ∷ kColon ∷ kComma ∷ kStar ∷ kArrow ∷ kCONST ∷ kFUN ∷ kREC ∷ kVAR ∷ kPROC ∷ kECHO ∷ kSET ∷ kIF ∷ kWHILE ∷ kCALL ∷ kif ∷ kand ∷ kor ∷ kbool ∷ kint ∷ kvar ∷ kadr ∷ []) ++ (none ∷ none ∷ map some (kvec ∷ kalloc ∷ knth ∷ klen ∷ kvset ∷ [])))
+uncode (suc n) = nth n (map some (kLbr ∷ kRbr ∷ kLpar ∷ kRpar ∷ kSemi ∷ kColon ∷ kComma ∷ kStar ∷ kArrow ∷ kCONST ∷ kFUN ∷ kREC ∷ kVAR ∷ kPROC ∷ kECHO ∷ kSET ∷ kIF ∷ kWHILE ∷ kCALL ∷ kif ∷ kand ∷ kor ∷ kbool ∷ kint ∷ kvar ∷ kadr ∷ []) ++ (none ∷ none ∷ map some (kvec ∷ kalloc ∷ knth ∷ klen ∷ kvset ∷ kRETURN ∷ [])))
 
 uncode-code : (m : Mark) → uncode (code m) ≡ some m
 unfolding uncode nth
@@ -59,6 +59,7 @@ uncode-code kalloc = refl
 uncode-code knth = refl
 uncode-code klen = refl
 uncode-code kvset = refl
+uncode-code kRETURN = refl
 
 uncode-number : uncode tNum ≡ none
 unfolding uncode nth
@@ -101,6 +102,11 @@ data Named : List Word → List Word → Type 0 where
 data Is (k : Sort) : List Word → List Word → Type 0 where
   is : {e : TreeOf k} {ts r : List Word} → Reads k e ts r → Is k ts r
 
+-- a function's body
+data Body : List Word → List Word → Type 0 where
+  by-expr : {ts r : List Word} → Is EXPR ts r → Body ts r
+  by-block : {ts r : List Word} → Is BLOCK ts r → Body ts r
+
 infixr 60 _⨟_
 data Then (A B : List Word → List Word → Type 0) : List Word → List Word → Type 0 where
   _⨟_ : {ts m r : List Word} → A ts m → B m r → Then A B ts r
@@ -115,9 +121,14 @@ Item sCN = Then (Named) (Then (Is TYPE) (Is EXPR))
 Item sCT = Then (Is TYPE) (Is EXPR)
 Item sExpr = Is EXPR
 Item sFunH = λ ts r. (p : ℕ) → Is DEF (mark kFUN p ∷ ts) r
-Item sFN = Then (Named) (Then (Is TYPE) (Then (Lit kLbr) (Then (Is ARGS) (Then (Lit kRbr) (Is EXPR)))))
-Item sFT = Then (Is TYPE) (Then (Lit kLbr) (Then (Is ARGS) (Then (Lit kRbr) (Is EXPR))))
-Item sFL = Then (Lit kLbr) (Then (Is ARGS) (Then (Lit kRbr) (Is EXPR)))
+Item sFN = Then (Named) (Then (Is TYPE) (Then (Lit kLbr) (Then (Is ARGS) (Then (Lit kRbr) Body))))
+Item sFT = Then (Is TYPE) (Then (Lit kLbr) (Then (Is ARGS) (Then (Lit kRbr) Body)))
+Item sFL = Then (Lit kLbr) (Then (Is ARGS) (Then (Lit kRbr) Body))
+Item sFArg1 = Then (Is ARGS) (Then (Lit kRbr) Body)
+Item sFArg0 = λ ts r. (z : List Word) → Is ARG z ts → Then (Is ARGS) (Then (Lit kRbr) Body) z r
+Item sFBody = Body
+Item sFOpen = λ ts r. (p : ℕ) → Body (mark kLbr p ∷ ts) r
+Item sEnd = Lit kRbr
 Item sArg1 = Then (Is ARGS) (Then (Lit kRbr) (Is EXPR))
 Item sArg0 = λ ts r. (z : List Word) → Is ARG z ts → Then (Is ARGS) (Then (Lit kRbr) (Is EXPR)) z r
 Item sColon = Then (Lit kColon) (Is TYPE)
@@ -220,6 +231,12 @@ args-more (is a ⨟ k) (is t) = is (r-more-args t a) ⨟ k
 args-end : {p : ℕ} {z ts r : List Word} → Is EXPR ts r → Is ARG z (mark kRbr p ∷ ts) → Item sArg1 z r
 args-end k (is t) = is (r-one-arg t) ⨟ lit ⨟ k
 
+fargs-more : {p : ℕ} {z ts r : List Word} → Item sFArg1 ts r → Is ARG z (mark kComma p ∷ ts) → Item sFArg1 z r
+fargs-more (is a ⨟ k) (is t) = is (r-more-args t a) ⨟ k
+
+fargs-end : {p : ℕ} {z ts r : List Word} → Body ts r → Is ARG z (mark kRbr p ∷ ts) → Item sFArg1 z r
+fargs-end k (is t) = is (r-one-arg t) ⨟ lit ⨟ k
+
 argp-val : {x : Ident} {ts r : List Word} → Item sColon ts r → Is ARGP (named x ∷ ts) r
 argp-val (lit ⨟ is t) = is (r-val-arg t)
 
@@ -296,10 +313,12 @@ const-of : {p : ℕ} {ts r : List Word} → Item sCN ts r → Is DEF (mark kCONS
 const-of (nm ⨟ is t ⨟ is e) = is (r-const t e)
 
 fun-of : {p : ℕ} {ts r : List Word} → Item sFN ts r → Is DEF (mark kFUN p ∷ ts) r
-fun-of (nm ⨟ is t ⨟ lit ⨟ is a ⨟ lit ⨟ is e) = is (r-fun t a e)
+fun-of (nm ⨟ is t ⨟ lit ⨟ is a ⨟ lit ⨟ by-expr (is e)) = is (r-fun t a e)
+fun-of (nm ⨟ is t ⨟ lit ⨟ is a ⨟ lit ⨟ by-block (is b)) = is (r-fun-block t a b)
 
 funrec-of : {p i : ℕ} {ts r : List Word} → Item sFN ts r → Is DEF (mark kFUN p ∷ mark kREC i ∷ ts) r
-funrec-of (nm ⨟ is t ⨟ lit ⨟ is a ⨟ lit ⨟ is e) = is (r-fun-rec t a e)
+funrec-of (nm ⨟ is t ⨟ lit ⨟ is a ⨟ lit ⨟ by-expr (is e)) = is (r-fun-rec t a e)
+funrec-of (nm ⨟ is t ⨟ lit ⨟ is a ⨟ lit ⨟ by-block (is b)) = is (r-fun-rec-block t a b)
 
 var-of : {p : ℕ} {ts r : List Word} → Item sVN ts r → Is DEF (mark kVAR p ∷ ts) r
 var-of (nm ⨟ is t) = is (r-var t)
@@ -334,6 +353,9 @@ a-stat : {A : List Word → List Word → Type 0} {x : Word} {F : List Word → 
     → Seq A (Seq (Item sTail) F) ts → Seq (Item sBody) F (x ∷ ts)
 a-stat f (a ▸ b ▸ h) = b _ (f _ a) ▸ h
 
+a-return : {p : ℕ} {F : List Word → Type 0} {ts : List Word} → Seq (Is EXPR) (Seq (Item sEnd) F) ts → Seq (Item sBody) F (mark kRETURN p ∷ ts)
+a-return (is e ▸ lit ▸ h) = (is (r-return e) ⨟ lit) ▸ h
+
 name-heads : All (Heads (Named)) name-rules
 name-heads = ((by-name _ (λ x n q u s ts h. nm ▸ h)), tt)
 
@@ -347,6 +369,15 @@ expr-heads : All (Heads (Is EXPR)) expr-rules
 expr-heads = (
   (by-number _ (λ p z n q u s ts h. is r-num ▸ h)),
   ((by-name _ (λ x n q u s ts h. is r-name ▸ h)), ((by-mark kLpar _ (λ p n q u s ts h. over (λ r a. a p) h)), ((by-mark kLbr _ (λ p n q u s ts h. over (λ r a. abs-of a) h)), tt))),
+)
+
+body-heads : All (Heads Body) (ex-rules sParen sFOpen)
+body-heads = (
+  (by-number _ (λ p z n q u s ts h. by-expr (is r-num) ▸ h)),
+  (
+    (by-name _ (λ x n q u s ts h. by-expr (is r-name) ▸ h)),
+    ((by-mark kLpar _ (λ p n q u s ts h. over (λ r a. by-expr (a p)) h)), ((by-mark kLbr _ (λ p n q u s ts h. over (λ r a. a p) h)), tt)),
+  ),
 )
 
 exprp-heads : All (Heads (Is EXPRP)) exprp-rules
@@ -422,7 +453,7 @@ body-good = (
             (by-mark kSET _ (λ p n q u s ts h. a-stat (λ r a. set-of a) h)),
             (
               (by-mark kIF _ (λ p n q u s ts h. a-stat (λ r a. cond-of a) h)),
-              ((by-mark kWHILE _ (λ p n q u s ts h. a-stat (λ r a. while-of a) h)), ((by-mark kCALL _ (λ p n q u s ts h. over (λ r a. call-of a) h)), tt)),
+              ((by-mark kWHILE _ (λ p n q u s ts h. a-stat (λ r a. while-of a) h)), ((by-mark kCALL _ (λ p n q u s ts h. over (λ r a. call-of a) h)), ((by-mark kRETURN _ (λ p n q u s ts h. a-return h)), tt))),
             ),
           ),
         ),
@@ -430,6 +461,11 @@ body-good = (
     ),
   ),
 )
+
+-- what is good for commands is good for the first of a function's block
+first-good : (rs : List Rule) → All (Good sBody) rs → All (Good sFOpen) (first-rules rs)
+first-good [] h = tt
+first-good (rule k a f ns ∷ rs) h = (λ x e n q u s ts g. over (λ r b p. by-block (block-of b)) (h .0 x e n q u s ts g), first-good rs (h .1))
 
 good : (X : Sym) → All (Good X) (rules X)
 good sBlock = pure0 sBlock (Is BLOCK) block-rules (λ ts r a. a) block-heads
@@ -443,6 +479,14 @@ good sFunH = all-append (Good sFunH) (thn (some sFT) name-rules) (rec-rules 4 sF
 good sFN = pure1 sFN sFT (Named) name-rules (λ ts r a. a) name-heads
 good sFT = pure1 sFT sFL (Is TYPE) type-rules (λ ts r a. a) type-heads
 good sFL = ((by-mark kLbr _ (λ p n q u s ts h. over (λ r a. lit ⨟ a) h)), tt)
+good sFArg1 = pure1 sFArg1 sFArg0 (Is ARG) arg-rules (λ ts r a. elim a [ b ⨟ k ↦ k _ b ]) arg-heads
+good sFArg0 = ((by-mark kComma _ (λ p n q u s ts h. over (λ r a z b. fargs-more a b) h)), ((by-mark kRbr _ (λ p n q u s ts h. over (λ r a z b. fargs-end a b) h)), tt))
+good sFBody = pure0 sFBody Body (ex-rules sParen sFOpen) (λ ts r a. a) body-heads
+good sFOpen =
+    all-append (Good sFOpen) (thn (some sArg0) arg-rules) (first-rules body-rules)
+    (heads1 sFOpen sArg0 (Is ARG) (λ ts r a. elim a [ b ⨟ k ↦ λ p. by-expr (abs-of (k _ b)) ]) arg-rules arg-heads)
+    (first-good body-rules body-good)
+good sEnd = ((by-mark kRbr _ (λ p n q u s ts h. lit ▸ h)), tt)
 good sArg1 = pure1 sArg1 sArg0 (Is ARG) arg-rules (λ ts r a. elim a [ b ⨟ k ↦ k _ b ]) arg-heads
 good sArg0 = ((by-mark kComma _ (λ p n q u s ts h. over (λ r a z b. args-more a b) h)), ((by-mark kRbr _ (λ p n q u s ts h. over (λ r a z b. args-end a b) h)), tt))
 good sColon = ((by-mark kColon _ (λ p n q u s ts h. over (λ r a. lit ⨟ a) h)), tt)

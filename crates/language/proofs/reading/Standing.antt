@@ -3,7 +3,7 @@ use mathlib.Core.Path.{_≡_}
 use mathlib.Core.List.{List, [], _∷_}
 use Prim.Native.Nat.{ℕ}
 use lib.ListN.{drop}
-use Rattle.language.specs.Syntax.{Arg, arg, ArgP, val-arg, var-arg, Expr, num, name, if-expr, and, or, app, abs, alloc, nth-expr, len, vset, Exprs, one-expr, more-exprs, ExprP, val, adr, Cmds, last, def-then, stat-then, Def, const, fun, fun-rec, var, proc, proc-rec, Stat, echo, set, if-stat, while, call, Block, block}
+use Rattle.language.specs.Syntax.{Arg, arg, ArgP, val-arg, var-arg, Expr, num, name, if-expr, and, or, app, abs, alloc, nth-expr, len, vset, Exprs, one-expr, more-exprs, ExprP, val, adr, Cmds, last, def-then, stat-then, Def, const, fun, fun-rec, fun-block, fun-rec-block, var, proc, proc-rec, Stat, echo, set, if-stat, while, call, return, Block, block}
 use Rattle.language.specs.Words.{Word, number, named, place-word, word, front}
 
 -- A word stands in a text: it is what begins there at its place.
@@ -66,6 +66,8 @@ unfoldable mutual
   inDef (const p x t e) P = P (named x) × inExpr e P
   inDef (fun p x t a e) P = P (named x) × inArgs a P × inExpr e P
   inDef (fun-rec p x t a e) P = P (named x) × inArgs a P × inExpr e P
+  inDef (fun-block p x t a b) P = P (named x) × inArgs a P × inBlock b P
+  inDef (fun-rec-block p x t a b) P = P (named x) × inArgs a P × inBlock b P
   inDef (var p x t) P = P (named x)
   inDef (proc p x a b) P = P (named x) × inArgsP a P × inBlock b P
   inDef (proc-rec p x a b) P = P (named x) × inArgsP a P × inBlock b P
@@ -76,6 +78,7 @@ unfoldable mutual
   inStat (if-stat p e b c) P = inExpr e P × inBlock b P × inBlock c P
   inStat (while p e b) P = inExpr e P × inBlock b P
   inStat (call p x a) P = P (named x) × inExprsP a P
+  inStat (return p e) P = inExpr e P
 
   pub inBlock : Block → (Word → Type 0) → Type 0
   inBlock (block p c) P = inCmds c P

@@ -10,7 +10,7 @@ use Rattle.language.specs.Words.{Word, place-word, Front, gap, word, bad
 use Rattle.language.specs.Grammar.{BLOCK, Reads}
 use Rattle.language.specs.Table.{Forest, shapeBlock, Node, node, enc}
 use Rattle.language.specs.Claims.{Rising, end, next, place-of-node}
-use Rattle.language.proofs.reading.Machine.{sib, set-sib, link, add-leaf, add-fork, rekind, retype, Entry, ent, Act, act, Rule, rule, rules, tag, pick, Parsed, through, stuck, parse, start}
+use Rattle.language.proofs.reading.Machine.{sib, set-sib, link, add-leaf, add-fork, rekind, retype, set-block, blocked, Ctx, cal, Entry, ent, Act, act, Rule, rule, rules, tag, pick, Parsed, through, stuck, parse, start}
 use Rattle.language.proofs.reading.First.{no-stop}
 use Rattle.language.proofs.reading.Written.{written}
 use Rattle.language.proofs.reading.Fits.{done-table}
@@ -70,6 +70,17 @@ places-retype k [] = refl
 places-retype k (node j p c s ∷ []) = refl
 places-retype k (x ∷ y ∷ t) = ap (λ (l : List ℕ). place-of-node x ∷ l) (places-retype k (y ∷ t))
 
+places-set-block : (i : ℕ) (t : List Node) → places (set-block i t) ≡ places t
+unfolding set-block
+places-set-block i [] = refl
+places-set-block zero (node k p c s ∷ t) = refl
+places-set-block (suc i) (x ∷ t) = ap (λ (l : List ℕ). place-of-node x ∷ l) (places-set-block i t)
+
+places-blocked : (c : ℕ) (t : List Node) → places (blocked c t) ≡ places t
+unfolding blocked
+places-blocked zero t = refl
+places-blocked (suc i) t = places-set-block i t
+
 places-add : (t : List Node) (x : Node) → places (t ++ (x ∷ [])) ≡ places t ++ (place-of-node x ∷ [])
 places-add [] x = refl
 places-add (y ∷ t) x = ap (λ (l : List ℕ). place-of-node y ∷ l) (places-add t x)
@@ -83,16 +94,21 @@ abbrev Then : List ℕ → ℕ → List ℕ → Type 0
 Then before i after = (l : List ℕ) × (after ≡ before ++ l) × Rising i l
 
 -- a rule makes one node at the place of its word, or none
-acted : (a : Act) (p q : ℕ) (t : List Node) (i : ℕ) (after : List ℕ) → i ≤ p → Then (places (act a p q t)) (suc p) after → Then (places t) i after
+acted : (a : Act) (p q : ℕ) (u : Ctx) (t : List Node) (i : ℕ) (after : List ℕ) → i ≤ p → Then (places (act a p q u t)) (suc p) after → Then (places t) i after
 unfolding add-leaf add-fork
-acted Machine.skip p q t i after h (l, e, r) = (l, e, later l (omega (arith, h)) r)
-acted (Machine.leaf k) p q t i after h (l, e, r) =
+acted Machine.skip p q u t i after h (l, e, r) = (l, e, later l (omega (arith, h)) r)
+acted (Machine.leaf k) p q u t i after h (l, e, r) =
     let n = places-add (link q _ t) (node k p 0 0) ∙ ap (λ (z : List ℕ). z ++ (p ∷ [])) (places-link q _ t) in
     (p ∷ l, e ∙ (ap (λ (z : List ℕ). z ++ l) n ∙ snoc-append (places t) p l), next h r)
-acted (Machine.fork k) p q t i after h (l, e, r) =
+acted (Machine.fork k) p q u t i after h (l, e, r) =
     let n = places-add (link q _ t) (node k p _ 0) ∙ ap (λ (z : List ℕ). z ++ (p ∷ [])) (places-link q _ t) in
     (p ∷ l, e ∙ (ap (λ (z : List ℕ). z ++ l) n ∙ snoc-append (places t) p l), next h r)
-acted (Machine.turn k) p q t i after h (l, e, r) = (l, e ∙ ap (λ (z : List ℕ). z ++ l) (places-retype k t), later l (omega (arith, h)) r)
+acted (Machine.turn k) p q u t i after h (l, e, r) = (l, e ∙ ap (λ (z : List ℕ). z ++ l) (places-retype k t), later l (omega (arith, h)) r)
+acted (Machine.lead k) p q u t i after h (l, e, r) =
+    let b = blocked (cal u) (retype 1 t) in
+    let same = places-blocked (cal u) (retype 1 t) ∙ places-retype 1 t in
+    let n = places-add (link q _ b) (node k p _ 0) ∙ (ap (λ (z : List ℕ). z ++ (p ∷ [])) (places-link q _ b) ∙ ap (λ (z : List ℕ). z ++ (p ∷ [])) same) in
+    (p ∷ l, e ∙ (ap (λ (z : List ℕ). z ++ l) n ∙ snoc-append (places t) p l), next h r)
 
 append-none : (a : List ℕ) → a ≡ a ++ []
 append-none [] = refl
@@ -111,7 +127,7 @@ nodes-rise-from (x ∷ ts) (ent X q u ∷ s) t f t′ o i (next h r) e = go (pic
         → ((s′ : List Entry) (tab : List Node) (g : List ℕ → List ℕ) → parse ts s′ tab g ≡ through t′ o → Then (places tab) (suc (place-word x)) (places t′))
         → Then (places t) i (places t′)
     go none e′ ih = absurd (no-stop e′)
-    go (some (rule j a ps ns)) e′ ih = acted a (place-word x) q t i (places t′) h (ih _ _ _ e′)
+    go (some (rule j a ps ns)) e′ ih = acted a (place-word x) q u t i (places t′) h (ih _ _ _ e′)
 
 -- The nodes of a program stand in the order of their places, and no two at one place.
 pub nodes-rise : {b : Block} (s : List ℕ) (ts : List Word) → wordsOf s ≡ fine ts → Reads BLOCK b ts [] → Rising 0 (map place-of-node (enc (shapeBlock b Forest.none) 0))

@@ -1,7 +1,7 @@
 -- What `put` writes, node by node, is `enc`.
 use mathlib.Core.Path.{_≡_, refl, sym, _∙_, ap}
 use mathlib.Core.List.{List, [], _∷_, _++_, append-assoc, append-nil}
-use Prim.Native.Nat.{ℕ, zero, suc, _+_}
+use Prim.Native.Nat.{ℕ, suc, _+_}
 use native.Mathlib.Numerals.{add-one}
 use native.Mathlib.Omega.{arith}
 use lib.ListN.{length, length-append}
@@ -11,18 +11,8 @@ use Rattle.language.specs.Grammar.{BLOCK, Reads}
 use Rattle.language.specs.Table.{Forest, none, leaf, fork, shapeBlock, Node, node, size, first, enc}
 use Rattle.language.specs.Levels.{levels}
 use Rattle.language.proofs.reading.Machine.{sib, set-sib, link, add-leaf, add-fork, put, through, whole}
+pub use Rattle.language.proofs.reading.Kinds.{length-link}
 use Rattle.language.proofs.reading.Complete.{complete}
-
-length-set-sib : (q m : ℕ) (t : List Node) → length (set-sib q m t) ≡ length t
-unfolding set-sib
-length-set-sib q m [] = refl
-length-set-sib zero m (x ∷ t) = refl
-length-set-sib (suc q) m (x ∷ t) = ap suc (length-set-sib q m t)
-
-pub length-link : (q m : ℕ) (t : List Node) → length (link q m t) ≡ length t
-unfolding link
-length-link zero m t = refl
-length-link (suc q) m t = length-set-sib q m t
 
 set-sib-seam : (l : List Node) (x : Node) (u : List Node) (m : ℕ) → set-sib (length l) m (l ++ (x ∷ u)) ≡ l ++ (sib m x ∷ u)
 unfolding set-sib

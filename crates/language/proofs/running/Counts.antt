@@ -8,16 +8,17 @@ use mathlib.Core.Option.{Option, none, some, Option·none-ne-some, Option·some-
 use lib.Dec.{T, ltb, leb, leb→le, ltb→lt, nltb→le}
 use lib.IntN.{ℤ, pos, _+ℤ_, _-ℤ_, _*ℤ_}
 use lib.ListN.{length, length-append, replicate, length-replicate}
-use Rattle.language.specs.Syntax.{at, arg, Expr, num, name, if-expr, and, or, app, abs, alloc, nth-expr, len, vset, Exprs, one-expr, more-exprs, ExprP, val, adr, Cmds, last, def-then, stat-then, Def, const, fun, fun-rec, var, proc, proc-rec, Stat, echo, set, if-stat, while, call, Block, block}
+use Rattle.language.specs.Syntax.{at, arg, Expr, num, name, if-expr, and, or, app, abs, alloc, nth-expr, len, vset, Exprs, one-expr, more-exprs, ExprP, val, adr, Cmds, last, def-then, stat-then, Def, const, fun, fun-rec, fun-block, fun-rec-block, var, proc, proc-rec, Stat, echo, set, if-stat, while, call, return, Block, block}
 use Rattle.language.specs.Answers.{LimitStop, FUEL, DEPTH, CELLS, BINDINGS, OUTPUT, ErrorStop, RANGE, ZERO, UNSET, SIZE, INDEX, limit, error}
 use Rattle.language.specs.Names.{Op, not, eq, lt, add, sub, mul, div, Meaning, literal, operator, free, meaning, head-operator}
 use Rattle.language.specs.Numbers.{in-range, quotient, Computed, amount, fails, ranged, same-number, as-bit, negated, op1, op2, compute}
 use Rattle.language.specs.Limits.{Limits}
-use Rattle.language.specs.Rules.{Val, inZ, inF, inFR, inP, inPR, inA, inB, Env, empty, Cell, State, Why, stop, no-rule, Outcome, ok, halt, bind, need, otherwise, within, branch, take-unit, take-bindings, with-cells, put-out, enter, make, look, nth, behind, fresh, store, as-size, cell-in, as-numbers, if-numbers, operate, give, give-cell, Level, exprs, args, cmds, in-block, read, name-rule, apply-rule, alloc-rule, element-rule, expr-rule, arg-rule, def-rule, rounds, stat-rule, step, level, start, run}
+use Rattle.language.specs.Rules.{Val, inZ, inF, inFR, inP, inPR, inA, inB, Env, empty, Cell, State, Returned, Why, stop, no-rule, Outcome, ok, halt, bind, need, unless-returned, otherwise, within, branch, take-unit, take-bindings, with-cells, put-out, enter, make, look, nth, behind, fresh, store, Body, an-expr, a-block, as-size, cell-in, as-numbers, if-numbers, operate, give, give-cell, Level, exprs, args, cmds, in-block, in-body, read, name-rule, apply-rule, alloc-rule, element-rule, expr-rule, arg-rule, def-rule, rounds, stat-rule, step, level, start, run, ended}
 use Rattle.language.specs.Outcome.{state-of}
 use Rattle.language.specs.Claims.{InLimits, UsedUp, NamesCell, UnsetCell}
 use Rattle.language.proofs.running.Cells.{length-store}
 use Rattle.language.proofs.running.Stable.{Mark, mark, After, aOk, aHalt, sim-after, SimLevel, block-sim, level-self}
+use Rattle.language.specs.Places.{place-block}
 
 -- I is kept by each change of the state, and H holds where a run may halt
 pub record Inv (L : Limits) (I : State → Type 0) (H : Why → State → Type 0) : Type 0 where
@@ -52,6 +53,13 @@ module _ {H : Why → State → Type 0} where
   unfolding bind
   keeps-bind (kOk {a = a} {s = s} i) f = f a s i
   keeps-bind (kHalt i) f = kHalt i
+
+  keeps-then : {I J : State → Type 0} {o : Outcome Returned} {k : State → Outcome Returned} → ((s : State) → J s → I s) → Keeps J H o →
+      ((s : State) → J s → Keeps I H (k s)) → Keeps I H (unless-returned o k)
+  unfolding unless-returned
+  keeps-then c (kOk {a = none} {s = s} i) f = f s i
+  keeps-then c (kOk {a = some v} {s = s} i) f = kOk (c s i)
+  keeps-then c (kHalt i) f = kHalt i
 
   keeps-within : {I : State → Type 0} {A : Type 0} (b : Bool) (l : LimitStop) (p : ℕ) (s : State) {o : Outcome A} →
       (T (notb b) → H (stop (limit l)) s) → (T b → Keeps I H o) → Keeps I H (within b l p s o)
@@ -164,6 +172,10 @@ module _ (L : Limits) {I : State → Type 0} {H : Why → State → Type 0} (W :
   keeps-name (operator f) o p s i = kHalt (W .at-no-rule s i)
   keeps-name free o p s i = keeps-need o p s i λ v _. keeps-read v p s i
 
+  keeps-ended : (o : Returned) (p : ℕ) (s : State) → I s → Keeps I H (ended o p s)
+  keeps-ended none p s i = kOk i
+  keeps-ended (some v) p s i = kHalt (W .at-no-rule s i)
+
   enter-k : {A : Type 0} (p : ℕ) (s : State) {o : Outcome A} → I s → (I (take-unit s) → Keeps I H o) → Keeps I H (enter L p s (λ _. o))
   enter-k p s i f = keeps-within _ _ p s (λ b. W .at-fuel s b i) λ b. f (W .on-unit s b i)
 
@@ -177,12 +189,12 @@ module _ (L : Limits) {I : State → Type 0} {H : Why → State → Type 0} (W :
   element-k p v w s i f = keeps-need _ p s i λ b _. keeps-need _ p s i λ n _. keeps-otherwise _ INDEX p s tt i f
 
   -- the count of the rounds never runs out: each takes a unit, and there are no more than the fuel
-  rounds-k : (n : ℕ) (test : State → Outcome Val) (run : State → Outcome (Unit {0})) →
+  rounds-k : (n : ℕ) (test : State → Outcome Val) (run : State → Outcome Returned) →
       ((s : State) → I s → Keeps I H (test s)) → ((s : State) → I s → Keeps I H (run s)) → ((s : State) → After (mark s) (test s)) → ((s : State) → After (mark s) (run s)) →
       (p : ℕ) (s : State) → L .fuel < s .units + n → I s → Keeps I H (rounds L n test run p s)
   rounds-k zero test run ht hr ut ur p s few i = absurd (omega (arith, few, W .in-fuel s i))
   rounds-k (suc n) test run ht hr ut ur p s few i = keeps-bind (keeps-past (ht s i) (ut s)) λ v s₁ i₁. keeps-need _ p s₁ (i₁ .0) λ t _.
-      keeps-branch t (keeps-bind (keeps-past (hr s₁ (i₁ .0)) (ur s₁)) λ u s₂ i₂. enter-k p s₂ (i₂ .0) λ i₃.
+      keeps-branch t (keeps-then (λ s i. i .0) (keeps-past (hr s₁ (i₁ .0)) (ur s₁)) λ s₂ i₂. enter-k p s₂ (i₂ .0) λ i₃.
       rounds-k n test run ht hr ut ur p (take-unit s₂) (omega (arith, few, i₁ .1, i₂ .1)) i₃) (kOk (i₁ .0))
 
   module _ {r : Level} (h : KeepsLevel I H r) (u : SimLevel r r) where
@@ -196,16 +208,20 @@ module _ (L : Limits) {I : State → Type 0} {H : Why → State → Type 0} (W :
 
     cmds-k : (cs : Cmds) (ρ : Env) (s : State) → I s → Keeps I H (cmds r cs ρ s)
     cmds-k (def-then d cs) ρ s i = keeps-bind (h .def-keeps d ρ s i) λ ρ₁ s₁ i₁. cmds-k cs ρ₁ s₁ i₁
-    cmds-k (stat-then c cs) ρ s i = keeps-bind (h .stat-keeps c ρ s i) λ u s₁ i₁. cmds-k cs ρ s₁ i₁
+    cmds-k (stat-then c cs) ρ s i = keeps-then (λ s i. i) (h .stat-keeps c ρ s i) λ s₁ i₁. cmds-k cs ρ s₁ i₁
     cmds-k (last c) ρ s i = h .stat-keeps c ρ s i
 
     block-k : (b : Block) (ρ : Env) (s : State) → I s → Keeps I H (in-block r b ρ s)
     block-k (block p cs) ρ s i = cmds-k cs ρ s i
 
+    body-k : (b : Body) (ρ : Env) (p : ℕ) (s : State) → I s → Keeps I H (in-body r b ρ p s)
+    body-k (an-expr e) ρ p s i = h .expr-keeps e ρ s i
+    body-k (a-block b) ρ p s i = keeps-bind (block-k b ρ s i) λ o s₁ i₁. keeps-need o p s₁ i₁ λ v _. kOk i₁
+
     apply-k : (g : Option Op) (p : ℕ) (f : Expr) (es : Exprs) (ρ : Env) (s : State) → I s → Keeps I H (apply-rule L r g p f es ρ s)
     apply-k (some o) p f es ρ s i = keeps-bind (exprs-k es ρ s i) λ vs s₁ i₁. keeps-need _ p s₁ i₁ λ c e. keeps-give c p s₁ (operate-fails s₁ o vs c e) i₁
     apply-k none p f es ρ s i = keeps-bind (h .expr-keeps f ρ s i) λ v s₁ i₁. keeps-bind (exprs-k es ρ s₁ i₁) λ vs s₂ i₂. keeps-need _ p s₂ i₂ λ c _.
-        make-k (c .count) p s₂ i₂ λ i₃. h .expr-keeps (c .body) (c .env) _ i₃
+        make-k (c .count) p s₂ i₂ λ i₃. body-k (c .body) (c .env) p _ i₃
 
     expr-k : (e : Expr) (ρ : Env) (s : State) → I s → Keeps I H (expr-rule L r e ρ s)
     expr-k (num p n) ρ s i = kOk i
@@ -230,6 +246,8 @@ module _ (L : Limits) {I : State → Type 0} {H : Why → State → Type 0} (W :
     def-k (const p (at q x) t e) ρ s i = keeps-bind (h .expr-keeps e ρ s i) λ v s₁ i₁. make-k 1 p s₁ i₁ λ i₂. kOk i₂
     def-k (fun p (at q x) t ps e) ρ s i = make-k 1 p s i λ i₁. kOk i₁
     def-k (fun-rec p (at q x) t ps e) ρ s i = make-k 1 p s i λ i₁. kOk i₁
+    def-k (fun-block p (at q x) t ps b) ρ s i = make-k 1 p s i λ i₁. kOk i₁
+    def-k (fun-rec-block p (at q x) t ps b) ρ s i = make-k 1 p s i λ i₁. kOk i₁
     def-k (var p (at q x) t) ρ s i = keeps-within _ _ p s (λ b. W .at-cells s i) λ b. make-k 1 p (with-cells (s .cells ++ fresh p ∷ []) s) (W .on-cell p s b i) λ i₁. kOk i₁
     def-k (proc p (at q x) ps b) ρ s i = make-k 1 p s i λ i₁. kOk i₁
     def-k (proc-rec p (at q x) ps b) ρ s i = make-k 1 p s i λ i₁. kOk i₁
@@ -245,6 +263,7 @@ module _ (L : Limits) {I : State → Type 0} {H : Why → State → Type 0} (W :
         (λ s₁. sim-after (u .expr-sim e ρ s₁)) (λ s₁. sim-after (block-sim u b ρ s₁)) p s (omega arith) i
     stat-k (call p (at q x) as′) ρ s i = keeps-need _ p s i λ w _. keeps-bind (args-k as′ ρ s i) λ vs s₁ i₁.
         keeps-need _ p s₁ i₁ λ c _. make-k (c .count) p s₁ i₁ λ i₂. block-k (c .body) (c .env) _ i₂
+    stat-k (return p e) ρ s i = keeps-bind (h .expr-keeps e ρ s i) λ v s₁ i₁. kOk i₁
 
     step-k : KeepsLevel I H (step L r)
     step-k = record {
@@ -265,7 +284,7 @@ module _ (L : Limits) {I : State → Type 0} {H : Why → State → Type 0} (W :
   level-keeps (suc d) = step-k (level-keeps d) (level-self L d)
 
   pub run-keeps : (b : Block) → I start → Keeps I H (run L b)
-  run-keeps b i = block-k (level-keeps (L .depth)) (level-self L (L .depth)) b empty start i
+  run-keeps b i = keeps-bind (block-k (level-keeps (L .depth)) (level-self L (L .depth)) b empty start i) λ o s i₁. keeps-ended o (place-block b) s i₁
 
 -- where a limit stops a run, the limit is used up
 pub data StopsAt (L : Limits) : Why → State → Type 0 where

@@ -15,10 +15,10 @@ use Rattle.language.specs.Bytes.{same-bytes}
 use Rattle.language.specs.Answers.{LimitStop, CELLS, ErrorStop, SIZE, INDEX}
 use Rattle.language.specs.Names.{Op, not, eq, lt, add, sub, mul, div, Meaning, literal, operator, free, lookup, meaning, unless-nine, head-operator}
 use Rattle.language.specs.Numbers.{in-range, quotient, Computed, amount, fails, ranged, same-number, bit, as-bit, negated}
-use Rattle.language.specs.Types.{Base, boolean, integer, Ty, base, fn, vec-of, Tys, tnil, tcons, BOOL, INT, typeOf, Par, value, ref, Entity, plain, procedure, Ctx, find, extend, values, par, pars, param-name, param-names, declared, arg-types, takes, result}
-use Rattle.language.specs.Typing.{HasE, NUM, LITERAL, IDV, IDR, IF, AND, OR, PRIM, APP, ABS, ALLOC, NTH, LEN, VSET, HasEs, ONE, MORE, HasA, REF, VAL, HasAs, NO-ARGS, ARGS, HasB, BLOC, HasC, DECS, STATS, END, HasD, CONST, FUN, FUNREC, VAR, PROC, PROCREC, HasS, ECHO, SET, IFS, WHILE, CALL, Typable}
+use Rattle.language.specs.Types.{Base, boolean, integer, Ty, base, fn, vec-of, Tys, tnil, tcons, BOOL, INT, typeOf, Par, value, ref, Entity, plain, procedure, Ctx, find, extend, values, par, pars, param-name, param-names, declared, arg-types, Flow, never, may, always, takes, result}
+use Rattle.language.specs.Typing.{HasE, NUM, LITERAL, IDV, IDR, IF, AND, OR, PRIM, APP, ABS, ALLOC, NTH, LEN, VSET, HasEs, ONE, MORE, HasA, REF, VAL, HasAs, NO-ARGS, ARGS, Either, both-never, both-always, never-may, never-always, may-never, may-may, may-always, always-never, always-may, looped, Before, after-never, after-may, then-always, HasB, BLOC, HasC, DECS, STATS, END, HasD, CONST, FUN, FUNREC, VAR, PROC, PROCREC, HasS, FUNP, FUNRECP, ECHO, SET, IFS, WHILE, CALL, RET, Typable}
 use Rattle.language.specs.Limits.{Limits}
-use Rattle.language.specs.Rules.{Val, inZ, inF, inFR, inP, inPR, inA, inB, Env, empty, bound, Cell, State, Why, stop, no-rule, Outcome, ok, halt, bind, need, otherwise, within, branch, take-unit, with-cells, make, lookup-env, look, bind-all, nth, behind, fresh, store, as-number, as-truth, as-address, as-block, as-size, cell-in, operate, Entered, entering, also, open-function, open-procedure, give, give-cell, Level, exprs, args, cmds, in-block, read, name-rule, apply-rule, alloc-rule, element-rule, expr-rule, arg-rule, def-rule, rounds, stat-rule, step, level, start, run}
+use Rattle.language.specs.Rules.{Val, inZ, inF, inFR, inP, inPR, inA, inB, Env, empty, bound, Cell, State, Returned, Why, stop, no-rule, Outcome, ok, halt, bind, need, unless-returned, otherwise, within, branch, take-unit, with-cells, make, lookup-env, look, bind-all, nth, behind, fresh, store, as-number, as-truth, as-address, as-block, as-size, cell-in, operate, Entered, entering, also, Body, an-expr, a-block, open-function, open-procedure, give, give-cell, Level, exprs, args, cmds, in-block, in-body, read, name-rule, apply-rule, alloc-rule, element-rule, expr-rule, arg-rule, def-rule, rounds, stat-rule, step, level, start, run, ended}
 use Rattle.language.specs.Claims.{NoRule}
 use Rattle.language.proofs.typing.Names.{Has, has, head-typed}
 
@@ -70,9 +70,13 @@ mutual
     vFR : {f : Name} {xs : List Name} {e : Expr} {ρ : Env} {ts : Tys} {t : Ty} (Γ : Ctx) (ds : List (Name × Entity)) → EnvT S ρ Γ →
         names-in ds ≡ xs → entities-in ds ≡ values-of ts → HasE ((f, plain (value (fn ts t))) ∷ extend ds Γ) e t → VT S (inFR e f xs ρ) (plain (value (fn ts t)))
     vP : {xs : List Name} {c : Block} {ρ : Env} {qs : List Par} (Γ : Ctx) (ds : List (Name × Entity)) → EnvT S ρ Γ →
-        names-in ds ≡ xs → entities-in ds ≡ plains qs → HasB (extend ds Γ) c → VT S (inP c xs ρ) (procedure qs)
+        names-in ds ≡ xs → entities-in ds ≡ plains qs → HasB (extend ds Γ) c never → VT S (inP c xs ρ) (procedure qs)
     vPR : {f : Name} {xs : List Name} {c : Block} {ρ : Env} {qs : List Par} (Γ : Ctx) (ds : List (Name × Entity)) → EnvT S ρ Γ →
-        names-in ds ≡ xs → entities-in ds ≡ plains qs → HasB ((f, procedure qs) ∷ extend ds Γ) c → VT S (inPR c f xs ρ) (procedure qs)
+        names-in ds ≡ xs → entities-in ds ≡ plains qs → HasB ((f, procedure qs) ∷ extend ds Γ) c never → VT S (inPR c f xs ρ) (procedure qs)
+    vFP : {xs : List Name} {c : Block} {ρ : Env} {ts : Tys} {t : Ty} (Γ : Ctx) (ds : List (Name × Entity)) → EnvT S ρ Γ →
+        names-in ds ≡ xs → entities-in ds ≡ values-of ts → HasB (extend ds Γ) c (always t) → VT S (inP c xs ρ) (plain (value (fn ts t)))
+    vFPR : {f : Name} {xs : List Name} {c : Block} {ρ : Env} {ts : Tys} {t : Ty} (Γ : Ctx) (ds : List (Name × Entity)) → EnvT S ρ Γ →
+        names-in ds ≡ xs → entities-in ds ≡ values-of ts → HasB ((f, plain (value (fn ts t))) ∷ extend ds Γ) c (always t) → VT S (inPR c f xs ρ) (plain (value (fn ts t)))
     vA : {a : ℕ} {t : Ty} → nth S a ≡ some t → VT S (inA a) (plain (ref t))
     vB : {a n : ℕ} {t : Ty} → BlockT S t (a, n) → VT S (inB a n) (plain (value (vec-of t)))
 
@@ -104,6 +108,8 @@ module _ {S S′ : StoreT} (le : Ext S S′) where
     vt-ext (vFR Γ ds h p q d) = vFR Γ ds (env-ext h) p q d
     vt-ext (vP Γ ds h p q d) = vP Γ ds (env-ext h) p q d
     vt-ext (vPR Γ ds h p q d) = vPR Γ ds (env-ext h) p q d
+    vt-ext (vFP Γ ds h p q d) = vFP Γ ds (env-ext h) p q d
+    vt-ext (vFPR Γ ds h p q d) = vFPR Γ ds (env-ext h) p q d
     vt-ext (vA h) = vA (le .keeps _ _ h)
     vt-ext (vB h) = vB (λ i l. le .keeps _ _ (h i l))
 
@@ -178,8 +184,81 @@ IsVs τs S vs = VTs S vs τs
 abbrev pub IsEnv : Ctx → StoreT → Env → Type 0
 IsEnv Γ S ρ = EnvT S ρ Γ
 
+-- what was returned is what the commands say: nothing, or a value of their type
+pub data Gave (S : StoreT) : Flow → Returned → Type 0 where
+  nothing : Gave S never none
+  not-yet : {t : Ty} → Gave S (may t) none
+  by-chance : {t : Ty} {v : Val} → VT S v (plain (value t)) → Gave S (may t) (some v)
+  by-right : {t : Ty} {v : Val} → VT S v (plain (value t)) → Gave S (always t) (some v)
+
+abbrev pub IsGiven : Flow → StoreT → Returned → Type 0
+IsGiven f S o = Gave S f o
+
 abbrev pub IsUnit : StoreT → Unit {0} → Type 0
 IsUnit S u = Unit {0}
+
+good-as : {A : Type 0} {P Q : StoreT → A → Type 0} {S : StoreT} {o : Outcome A} → ((S′ : StoreT) (a : A) → P S′ a → Q S′ a) → Good P S o → Good Q S o
+good-as f (good S₁ le h p) = good S₁ le h (f S₁ _ p)
+good-as f (ruled r) = ruled r
+
+-- commands, and then others, if what they return goes together
+before-given : {S : StoreT} {f g : Flow} {v : Val} → Before f g → Gave S f (some v) → Gave S g (some v)
+before-given after-may (by-chance h) = by-chance h
+before-given then-always (by-chance h) = by-right h
+
+good-then : {S : StoreT} {f g : Flow} {o : Outcome Returned} {k : State → Outcome Returned} → Before f g → Good (IsGiven f) S o →
+    ((S′ : StoreT) (s : State) → Ext S S′ → StoreOk S′ (s .cells) → Good (IsGiven g) S′ (k s)) → Good (IsGiven g) S (unless-returned o k)
+unfolding unless-returned
+good-then b (good {a = none} {s = s} S₁ le h p) j = weaken le (j S₁ s le h)
+good-then b (good {a = some v} S₁ le h p) j = good S₁ le h (before-given b p)
+good-then b (ruled r) j = ruled r
+
+-- of a branch and of a round
+left-given : {S : StoreT} {f g h : Flow} {o : Returned} → Either f g h → Gave S f o → Gave S h o
+left-given both-never nothing = nothing
+left-given both-always (by-right v) = by-right v
+left-given never-may nothing = not-yet
+left-given never-always nothing = not-yet
+left-given may-never m = m
+left-given may-may m = m
+left-given may-always m = m
+left-given always-never (by-right v) = by-chance v
+left-given always-may (by-right v) = by-chance v
+
+right-given : {S : StoreT} {f g h : Flow} {o : Returned} → Either f g h → Gave S g o → Gave S h o
+right-given both-never nothing = nothing
+right-given both-always (by-right v) = by-right v
+right-given never-may m = m
+right-given never-always (by-right v) = by-chance v
+right-given may-never nothing = not-yet
+right-given may-may m = m
+right-given may-always (by-right v) = by-chance v
+right-given always-never nothing = not-yet
+right-given always-may m = m
+
+-- a round that gave nothing is followed by the next, which gives what the loop gives
+around : (f : Flow) → Before (looped f) (looped f)
+around never = after-never
+around (may t) = after-may
+around (always t) = after-may
+
+round-given : {S : StoreT} {f : Flow} {o : Returned} → Gave S f o → Gave S (looped f) o
+round-given nothing = nothing
+round-given not-yet = not-yet
+round-given (by-chance h) = by-chance h
+round-given (by-right h) = by-chance h
+
+loop-ends : {S : StoreT} (f : Flow) → Gave S (looped f) none
+loop-ends never = nothing
+loop-ends (may t) = not-yet
+loop-ends (always t) = not-yet
+
+-- a function's block gives a value; a program's gives none
+value-given : {S : StoreT} {t : Ty} {o : Returned} → Gave S (always t) o → Has (λ v. VT S v (plain (value t))) o
+value-given (by-right h) = has h
+
+ended-ok : {S : StoreT} {o : Returned} (p : ℕ) (s : State) → StoreOk S (s .cells) → Gave S never o → Good IsUnit S (ended o p s)
+ended-ok p s k nothing = good _ ext-refl k tt
 
 -- ---- names
 
@@ -278,6 +357,8 @@ read-value : {S : StoreT} {v : Val} {t : Ty} (p : ℕ) (s : State) → StoreOk S
 read-value p s k (vZ h) = good _ ext-refl k (vZ h)
 read-value p s k (vF Γ ds h q r d) = good _ ext-refl k (vF Γ ds h q r d)
 read-value p s k (vFR Γ ds h q r d) = good _ ext-refl k (vFR Γ ds h q r d)
+read-value p s k (vFP Γ ds h q r d) = good _ ext-refl k (vFP Γ ds h q r d)
+read-value p s k (vFPR Γ ds h q r d) = good _ ext-refl k (vFPR Γ ds h q r d)
 read-value p s k (vB h) = good _ ext-refl k (vB h)
 
 read-ref : {S : StoreT} {v : Val} {t : Ty} (p : ℕ) (s : State) → StoreOk S (s .cells) → VT S v (plain (ref t)) → Good (IsV (plain (value t))) S (read v p s)
@@ -323,22 +404,34 @@ bind-as : {S : StoreT} {vs : List Val} {ρ : Env} {Γ : Ctx} (ds : List (Name ×
 bind-as {S = S} {vs = vs} {ρ = ρ} {Γ = Γ} ds p q h r =
     subst (λ xs. Has (λ ρ′. EnvT S ρ′ (extend ds Γ)) (bind-all xs vs ρ)) p (bind-ok ds (subst (λ τs. VTs S vs τs) (sym q) h) r)
 
-abbrev pub EntersF : StoreT → Ty → Entered Expr → Type 0
-EntersF S t c = (Γ : Ctx) × EnvT S (c .env) Γ × HasE Γ (c .body) t
+abbrev pub HasBody : Ctx → Body → Ty → Type 0
+HasBody Γ (an-expr e) t = HasE Γ e t
+HasBody Γ (a-block b) t = HasB Γ b (always t)
+
+abbrev pub EntersF : StoreT → Ty → Entered Body → Type 0
+EntersF S t c = (Γ : Ctx) × EnvT S (c .env) Γ × HasBody Γ (c .body) t
 
 function-ok : {S : StoreT} {v : Val} {vs : List Val} {ts : Tys} {t : Ty} → VT S v (plain (value (fn ts t))) → VTs S vs (values-of ts) →
     Has (EntersF S t) (open-function v vs)
 function-ok {S = S} {vs = vs} {t = t} (vF {xs = xs} {e = e} {ρ = ρ} Γ ds r p q d) h = go (bind-as ds p q h r)
   where
-    go : {o : Option Env} → Has (λ ρ′. EnvT S ρ′ (extend ds Γ)) o → Has (EntersF S t) (entering e (length xs) o)
+    go : {o : Option Env} → Has (λ ρ′. EnvT S ρ′ (extend ds Γ)) o → Has (EntersF S t) (entering (an-expr e) (length xs) o)
     go (has k) = has (extend ds Γ, k, d)
 function-ok {S = S} {vs = vs} {ts = ts} {t = t} (vFR {f = f} {xs = xs} {e = e} {ρ = ρ} Γ ds r p q d) h = go (bind-as ds p q h r)
   where
-    go : {o : Option Env} → Has (λ ρ′. EnvT S ρ′ (extend ds Γ)) o → Has (EntersF S t) (entering e (suc (length xs)) (also f (inFR e f xs ρ) o))
+    go : {o : Option Env} → Has (λ ρ′. EnvT S ρ′ (extend ds Γ)) o → Has (EntersF S t) (entering (an-expr e) (suc (length xs)) (also f (inFR e f xs ρ) o))
     go (has k) = has ((f, plain (value (fn ts t))) ∷ extend ds Γ, tbound (vFR Γ ds r p q d) k, d)
+function-ok {S = S} {vs = vs} {t = t} (vFP {xs = xs} {c = c} {ρ = ρ} Γ ds r p q d) h = go (bind-as ds p q h r)
+  where
+    go : {o : Option Env} → Has (λ ρ′. EnvT S ρ′ (extend ds Γ)) o → Has (EntersF S t) (entering (a-block c) (length xs) o)
+    go (has k) = has (extend ds Γ, k, d)
+function-ok {S = S} {vs = vs} {ts = ts} {t = t} (vFPR {f = f} {xs = xs} {c = c} {ρ = ρ} Γ ds r p q d) h = go (bind-as ds p q h r)
+  where
+    go : {o : Option Env} → Has (λ ρ′. EnvT S ρ′ (extend ds Γ)) o → Has (EntersF S t) (entering (a-block c) (suc (length xs)) (also f (inPR c f xs ρ) o))
+    go (has k) = has ((f, plain (value (fn ts t))) ∷ extend ds Γ, tbound (vFPR Γ ds r p q d) k, d)
 
 abbrev pub EntersP : StoreT → Entered Block → Type 0
-EntersP S c = (Γ : Ctx) × EnvT S (c .env) Γ × HasB Γ (c .body)
+EntersP S c = (Γ : Ctx) × EnvT S (c .env) Γ × HasB Γ (c .body) never
 
 procedure-ok : {S : StoreT} {v : Val} {vs : List Val} {qs : List Par} → VT S v (procedure qs) → VTs S vs (plains qs) → Has (EntersP S) (open-procedure v vs)
 procedure-ok {S = S} (vP {xs = xs} {c = c} Γ ds r p q d) h = go (bind-as ds p q h r)
@@ -407,7 +500,8 @@ pub record GoodLevel (r : Level) : Type 0 where
   pub arg-good : {Γ : Ctx} {a : ExprP} {q : Par} {S : StoreT} {ρ : Env} (s : State) → HasA Γ a q → EnvT S ρ Γ → StoreOk S (s .cells) →
       Good (IsV (plain q)) S (r .arg a ρ s)
   pub def-good : {Γ Δ : Ctx} {d : Def} {S : StoreT} {ρ : Env} (s : State) → HasD Γ d Δ → EnvT S ρ Γ → StoreOk S (s .cells) → Good (IsEnv Δ) S (r .def d ρ s)
-  pub stat-good : {Γ : Ctx} {c : Stat} {S : StoreT} {ρ : Env} (s : State) → HasS Γ c → EnvT S ρ Γ → StoreOk S (s .cells) → Good IsUnit S (r .stat c ρ s)
+  pub stat-good : {Γ : Ctx} {c : Stat} {f : Flow} {S : StoreT} {ρ : Env} (s : State) → HasS Γ c f → EnvT S ρ Γ → StoreOk S (s .cells) →
+      Good (IsGiven f) S (r .stat c ρ s)
 
 module _ (L : Limits) {r : Level} (h : GoodLevel r) where
   exprs-ok : {Γ : Ctx} {es : Exprs} {ts : Tys} {S : StoreT} {ρ : Env} (s : State) → HasEs Γ es ts → EnvT S ρ Γ → StoreOk S (s .cells) →
@@ -422,13 +516,18 @@ module _ (L : Limits) {r : Level} (h : GoodLevel r) where
   args-ok s (ARGS d ds) m k =
       good-bind (h .arg-good s d m k) λ S₁ v s₁ le₁ k₁ p. good-bind (args-ok s₁ ds (env-ext le₁ m) k₁) λ S₂ vs s₂ le₂ k₂ q. good S₂ ext-refl k₂ (vcons (vt-ext le₂ p) q)
 
-  pub cmds-ok : {Γ : Ctx} {cs : Cmds} {S : StoreT} {ρ : Env} (s : State) → HasC Γ cs → EnvT S ρ Γ → StoreOk S (s .cells) → Good IsUnit S (cmds r cs ρ s)
+  pub cmds-ok : {Γ : Ctx} {cs : Cmds} {f : Flow} {S : StoreT} {ρ : Env} (s : State) → HasC Γ cs f → EnvT S ρ Γ → StoreOk S (s .cells) → Good (IsGiven f) S (cmds r cs ρ s)
   cmds-ok s (DECS d ds) m k = good-bind (h .def-good s d m k) λ S₁ ρ₁ s₁ le₁ k₁ p. cmds-ok s₁ ds p k₁
-  cmds-ok s (STATS d ds) m k = good-bind (h .stat-good s d m k) λ S₁ u s₁ le₁ k₁ p. cmds-ok s₁ ds (env-ext le₁ m) k₁
+  cmds-ok s (STATS d ds b) m k = good-then b (h .stat-good s d m k) λ S₁ s₁ le₁ k₁. cmds-ok s₁ ds (env-ext le₁ m) k₁
   cmds-ok s (END d) m k = h .stat-good s d m k
 
-  pub block-ok : {Γ : Ctx} {b : Block} {S : StoreT} {ρ : Env} (s : State) → HasB Γ b → EnvT S ρ Γ → StoreOk S (s .cells) → Good IsUnit S (in-block r b ρ s)
+  pub block-ok : {Γ : Ctx} {b : Block} {f : Flow} {S : StoreT} {ρ : Env} (s : State) → HasB Γ b f → EnvT S ρ Γ → StoreOk S (s .cells) → Good (IsGiven f) S (in-block r b ρ s)
   block-ok s (BLOC d) m k = cmds-ok s d m k
+
+  body-ok : (b : Body) {Γ : Ctx} {t : Ty} {S : StoreT} {ρ : Env} (p : ℕ) (s : State) → HasBody Γ b t → EnvT S ρ Γ → StoreOk S (s .cells) →
+      Good (IsV (plain (value t))) S (in-body r b ρ p s)
+  body-ok (an-expr e) p s d m k = h .expr-good s d m k
+  body-ok (a-block b) p s d m k = good-bind (block-ok s d m k) λ S₁ o s₁ le₁ k₁ q. good-need _ _ (value-given q) λ v n. good S₁ ext-refl k₁ n
 
   prim-ok : (f : Expr) {Γ : Ctx} {es : Exprs} {o : Op} {S : StoreT} {ρ : Env} (p : ℕ) (s : State) (g : Option Op) → g ≡ some o → HasEs Γ es (takes o) →
       EnvT S ρ Γ → StoreOk S (s .cells) →
@@ -444,7 +543,7 @@ module _ (L : Limits) {r : Level} (h : GoodLevel r) where
   app-ok p s (some o) e d ds m k = absurd (Option·none-ne-some _ (sym e))
   app-ok p s none e d ds m k =
       good-bind (h .expr-good s d m k) λ S₁ v s₁ le₁ k₁ q. good-bind (exprs-ok s₁ ds (env-ext le₁ m) k₁) λ S₂ vs s₂ le₂ k₂ q₂.
-      good-need _ _ (function-ok (vt-ext le₂ q) q₂) λ c n. good-within _ _ _ _ (h .expr-good _ (n .2) (n .1) k₂)
+      good-need _ _ (function-ok (vt-ext le₂ q) q₂) λ c n. good-within _ _ _ _ (body-ok (c .body) p _ (n .2) (n .1) k₂)
 
   literal-ok : {S : StoreT} {b : Bool} (m : Meaning) (o : Option Val) (p : ℕ) (s : State) → m ≡ literal b → StoreOk S (s .cells) →
       Good (IsV (plain (value BOOL))) S (name-rule m o p s)
@@ -493,29 +592,35 @@ module _ (L : Limits) {r : Level} (h : GoodLevel r) where
       ps} _ _ _ d) m k = good-within _ _ _ _ (good _ ext-refl k (tbound (vF _ (declared (values ps)) m (names-are (values ps)) (values-are ps) d) m))
   def-ok s (FUNREC {ps =
       ps} _ _ _ d) m k = good-within _ _ _ _ (good _ ext-refl k (tbound (vFR _ (declared (values ps)) m (names-are (values ps)) (values-are ps) d) m))
+  def-ok s (FUNP {ps = ps} _ _ _ d) m k = good-within _ _ _ _ (good _ ext-refl k (tbound (vFP _ (declared (values ps)) m (names-are (values ps)) (values-are ps) d) m))
+  def-ok s (FUNRECP {ps = ps} _ _ _ d) m k = good-within _ _ _ _ (good _ ext-refl k (tbound (vFPR _ (declared (values ps)) m (names-are (values ps)) (values-are ps) d) m))
   def-ok s (VAR {p = p} {x = x} {t = t} _ _) m k = var-ok p x (typeOf t) s m k
   def-ok s (PROC {ps = ps} _ _ d) m k = good-within _ _ _ _ (good _ ext-refl k (tbound (vP _ (declared ps) m (names-are ps) (entities-are ps) d) m))
   def-ok s (PROCREC {ps = ps} _ _ d) m k = good-within _ _ _ _ (good _ ext-refl k (tbound (vPR _ (declared ps) m (names-are ps) (entities-are ps) d) m))
 
-  rounds-ok : (n : ℕ) {Γ : Ctx} {e : Expr} {b : Block} {S : StoreT} {ρ : Env} (p : ℕ) (s : State) →
-      HasE Γ e BOOL → HasB Γ b → EnvT S ρ Γ → StoreOk S (s .cells) → Good IsUnit S (rounds L n (r .expr e ρ) (in-block r b ρ) p s)
+  rounds-ok : (n : ℕ) {Γ : Ctx} {e : Expr} {b : Block} {f : Flow} {S : StoreT} {ρ : Env} (p : ℕ) (s : State) →
+      HasE Γ e BOOL → HasB Γ b f → EnvT S ρ Γ → StoreOk S (s .cells) → Good (IsGiven (looped f)) S (rounds L n (r .expr e ρ) (in-block r b ρ) p s)
   rounds-ok zero p s d ds m k = ruled tt
-  rounds-ok (suc n) p s d ds m k =
+  rounds-ok (suc n) {f = f} p s d ds m k =
       good-bind (h .expr-good s d m k) λ S₁ v s₁ le₁ k₁ q. good-need _ _ (truth-ok q) λ t _.
-      good-branch _ (good-bind (block-ok s₁ ds (env-ext le₁ m) k₁) λ S₂ u s₂ le₂ k₂ _. good-within _ _ _ _ (rounds-ok n p (take-unit s₂) d ds (env-ext le₂ (env-ext le₁ m)) k₂))
-      (good S₁ ext-refl k₁ tt)
+      good-branch _
+      (good-then (around f) (good-as (λ S o g. round-given g) (block-ok s₁ ds (env-ext le₁ m) k₁)) λ S₂ s₂ le₂ k₂.
+      good-within _ _ _ _ (rounds-ok n p (take-unit s₂) d ds (env-ext le₂ (env-ext le₁ m)) k₂))
+      (good S₁ ext-refl k₁ (loop-ends f))
 
-  stat-ok : {Γ : Ctx} {c : Stat} {S : StoreT} {ρ : Env} (s : State) → HasS Γ c → EnvT S ρ Γ → StoreOk S (s .cells) → Good IsUnit S (stat-rule L r c ρ s)
-  stat-ok s (ECHO d) m k = good-bind (h .expr-good s d m k) λ S₁ v s₁ le₁ k₁ p. good-need _ _ (number-ok p) λ n _. good-within _ _ _ _ (good S₁ ext-refl k₁ tt)
+  stat-ok : {Γ : Ctx} {c : Stat} {f : Flow} {S : StoreT} {ρ : Env} (s : State) → HasS Γ c f → EnvT S ρ Γ → StoreOk S (s .cells) → Good (IsGiven f) S (stat-rule L r c ρ s)
+  stat-ok s (ECHO d) m k = good-bind (h .expr-good s d m k) λ S₁ v s₁ le₁ k₁ p. good-need _ _ (number-ok p) λ n _. good-within _ _ _ _ (good S₁ ext-refl k₁ nothing)
   stat-ok s (SET {x = x} e d) m k =
       good-need _ _ (look-ok x m e) λ w q. good-need _ _ (address-ok q) λ a n. good-bind (h .expr-good s d m k) λ S₁ v s₁ le₁ k₁ p.
-      good-need _ _ (set-ok k₁ (vt-ext le₁ n) p) λ cs k₂. good S₁ ext-refl k₂ tt
-  stat-ok s (IFS d da db) m k =
-      good-bind (h .expr-good s d m k) λ S₁ v s₁ le₁ k₁ p. good-need _ _ (truth-ok p) λ t _. good-branch _ (block-ok s₁ da (env-ext le₁ m) k₁) (block-ok s₁ db (env-ext le₁ m) k₁)
+      good-need _ _ (set-ok k₁ (vt-ext le₁ n) p) λ cs k₂. good S₁ ext-refl k₂ nothing
+  stat-ok s (IFS d da db i) m k =
+      good-bind (h .expr-good s d m k) λ S₁ v s₁ le₁ k₁ p. good-need _ _ (truth-ok p) λ t _.
+      good-branch _ (good-as (λ S o g. left-given i g) (block-ok s₁ da (env-ext le₁ m) k₁)) (good-as (λ S o g. right-given i g) (block-ok s₁ db (env-ext le₁ m) k₁))
   stat-ok s (WHILE {p = p} d ds) m k = rounds-ok (suc (L .fuel)) p s d ds m k
   stat-ok s (CALL {x = x} e ds) m k =
       good-need _ _ (look-ok x m e) λ w q. good-bind (args-ok s ds m k) λ S₁ vs s₁ le₁ k₁ p. good-need _ _ (procedure-ok (vt-ext le₁ q) p) λ c n.
       good-within _ _ _ _ (block-ok _ (n .2) (n .1) k₁)
+  stat-ok s (RET d) m k = good-bind (h .expr-good s d m k) λ S₁ v s₁ le₁ k₁ p. good S₁ ext-refl k₁ (by-right p)
 
   step-ok : GoodLevel (step L r)
   step-ok = record {
@@ -541,9 +646,11 @@ rules-fit (halt (stop w) p s) g h = h
 rules-fit (halt no-rule p s) (ruled r) h = r
 
 -- from any names and cells that fit the types
-pub block-sound : (L : Limits) (d : ℕ) {Γ : Ctx} {b : Block} {S : StoreT} {ρ : Env} (s : State) → HasB Γ b → EnvT S ρ Γ → StoreOk S (s .cells) →
+pub block-sound : (L : Limits) (d : ℕ) {Γ : Ctx} {b : Block} {f : Flow} {S : StoreT} {ρ : Env} (s : State) → HasB Γ b f → EnvT S ρ Γ → StoreOk S (s .cells) →
     ¬ NoRule (in-block (level L d) b ρ s)
 block-sound L d s t m k = rules-fit _ (block-ok L (level-ok L d) s t m k)
 
 pub sound : (L : Limits) (b : Block) → Typable b → ¬ NoRule (run L b)
-sound L b t = block-sound L (L .depth) start t tnone cnil
+sound L b t =
+    let g : Good IsUnit [] (run L b) = good-bind (block-ok L (level-ok L (L .depth)) start t tnone cnil) λ S₁ o s₁ le₁ k₁ q. ended-ok _ s₁ k₁ q in
+    rules-fit _ g

@@ -9,15 +9,16 @@ use mathlib.Core.Option.{Option, none, some}
 use lib.Dec.{T, leb, leb→le, le→leb}
 use lib.IntN.{ℤ}
 use lib.ListN.{length, length-append, replicate, length-replicate}
-use Rattle.language.specs.Syntax.{at, arg, Expr, num, name, if-expr, and, or, app, abs, alloc, nth-expr, len, vset, Exprs, one-expr, more-exprs, ExprP, val, adr, Cmds, last, def-then, stat-then, Def, const, fun, fun-rec, var, proc, proc-rec, Stat, echo, set, if-stat, while, call, Block, block}
+use Rattle.language.specs.Syntax.{at, arg, Expr, num, name, if-expr, and, or, app, abs, alloc, nth-expr, len, vset, Exprs, one-expr, more-exprs, ExprP, val, adr, Cmds, last, def-then, stat-then, Def, const, fun, fun-rec, fun-block, fun-rec-block, var, proc, proc-rec, Stat, echo, set, if-stat, while, call, return, Block, block}
 use Rattle.language.specs.Answers.{LimitStop, ErrorStop, limit}
 use Rattle.language.specs.Names.{Op, Meaning, literal, operator, free, meaning, head-operator}
 use Rattle.language.specs.Numbers.{Computed, amount, fails}
 use Rattle.language.specs.Limits.{Limits, _⊑_}
-use Rattle.language.specs.Rules.{Val, inZ, inF, inFR, inP, inPR, inA, inB, Env, empty, Cell, State, Why, stop, Outcome, ok, halt, bind, need, otherwise, within, branch, take-unit, take-bindings, with-cells, put-out, enter, make, look, fresh, store, give, give-cell, Level, exprs, args, cmds, in-block, read, name-rule, apply-rule, alloc-rule, element-rule, expr-rule, arg-rule, def-rule, rounds, stat-rule, bottom, step, level, start, run}
+use Rattle.language.specs.Rules.{Val, inZ, inF, inFR, inP, inPR, inA, inB, Env, empty, Cell, State, Returned, Why, stop, Outcome, ok, halt, bind, need, unless-returned, otherwise, within, branch, take-unit, take-bindings, with-cells, put-out, enter, make, look, Body, an-expr, a-block, fresh, store, give, give-cell, Level, exprs, args, cmds, in-block, in-body, read, name-rule, apply-rule, alloc-rule, element-rule, expr-rule, arg-rule, def-rule, rounds, stat-rule, bottom, step, level, start, run, ended}
 use Rattle.language.specs.Outcome.{state-of}
 use Rattle.language.specs.Claims.{NotLimited}
 use Rattle.language.proofs.running.Cells.{length-store}
+use Rattle.language.specs.Places.{place-block}
 
 -- the numbers of the second list begin with those of the first
 pub data Begins : List ℤ → List ℤ → Type 0 where
@@ -128,6 +129,20 @@ module _ {A B : Type 0} where
   sim-otherwise none x p s f = same (aHalt pHere)
   sim-otherwise (some a) x p s f = f a
 
+sim-then : {w : Mark} {o o′ : Outcome Returned} {k k′ : State → Outcome Returned} → Sim w o o′ → ((s : State) → Sim (mark s) (k s) (k′ s)) →
+    Sim w (unless-returned o k) (unless-returned o′ k′)
+unfolding unless-returned
+sim-then (same {o = ok none s} (aOk t)) f = sim-lift t (f s)
+sim-then (same {o = ok (some v) s} (aOk t)) f = same (aOk t)
+sim-then (same {o = halt y p s} (aHalt t)) f = same (aHalt t)
+sim-then (cut {o = ok none s} t (aOk u)) f = cut t (after-lift u (sim-after (f s)))
+sim-then (cut {o = ok (some v) s} t (aOk u)) f = cut t (aOk u)
+sim-then (cut {o = halt y p s} t (aHalt u)) f = cut t (aHalt u)
+
+ended-sim : (o : Returned) (p : ℕ) (s : State) → Sim (mark s) (ended o p s) (ended o p s)
+ended-sim none p s = same (aOk pHere)
+ended-sim (some v) p s = same (aHalt pHere)
+
 give-sim : (c : Computed) (p : ℕ) (s : State) → Sim (mark s) (give c p s) (give c p s)
 unfolding give
 give-sim (amount n) p s = same (aOk pHere)
@@ -180,16 +195,16 @@ module _ {L L′ : Limits} (le : L ⊑ L′) where
   alloc-sim p n s = sim-otherwise _ _ p s λ k. sim-within _ _ _ p s (up _ (le .cells-le)) (same (aOk (past-cells p k s)))
 
 -- rounds, with the same count and then with a larger one
-abbrev Round : (test test′ : State → Outcome Val) (run run′ : State → Outcome (Unit {0})) → Type 0
+abbrev Round : (test test′ : State → Outcome Val) (run run′ : State → Outcome Returned) → Type 0
 Round test test′ run run′ = ((s : State) → Sim (mark s) (test s) (test′ s)) × ((s : State) → Sim (mark s) (run s) (run′ s))
 
-rounds-self : (L : Limits) (n : ℕ) (test : State → Outcome Val) (run : State → Outcome (Unit {0})) → Round test test run run → (p : ℕ) (s : State) →
+rounds-self : (L : Limits) (n : ℕ) (test : State → Outcome Val) (run : State → Outcome Returned) → Round test test run run → (p : ℕ) (s : State) →
     Sim (mark s) (rounds L n test run p s) (rounds L n test run p s)
 rounds-self L zero test run h p s = same (aHalt pHere)
 rounds-self L (suc n) test run h p s =
-    sim-bind (h .0 s) λ v s₁. sim-need _ p s₁ λ t. sim-branch t (sim-bind (h .1 s₁) λ u s₂. enter-sim (⊑-refl L) p s₂ (rounds-self L n test run h p (take-unit s₂))) (same (aOk pHere))
+    sim-bind (h .0 s) λ v s₁. sim-need _ p s₁ λ t. sim-branch t (sim-then (h .1 s₁) λ s₂. enter-sim (⊑-refl L) p s₂ (rounds-self L n test run h p (take-unit s₂))) (same (aOk pHere))
 
-rounds-sim : {L L′ : Limits} → L ⊑ L′ → (n n′ : ℕ) → n ≤ n′ → (test test′ : State → Outcome Val) (run run′ : State → Outcome (Unit {0})) →
+rounds-sim : {L L′ : Limits} → L ⊑ L′ → (n n′ : ℕ) → n ≤ n′ → (test test′ : State → Outcome Val) (run run′ : State → Outcome Returned) →
     Round test test′ run run′ →
     (p : ℕ) (s : State) → Sim (mark s) (rounds L n test run p s) (rounds L′ n′ test′ run′ p s)
 rounds-sim {L′ = L′} le zero n′ m test test′ run run′ h p s =
@@ -197,7 +212,7 @@ rounds-sim {L′ = L′} le zero n′ m test test′ run run′ h p s =
 rounds-sim le (suc n) zero m test test′ run run′ h p s = absurd (not-suc-le-zero m)
 rounds-sim le (suc n) (suc n′) m test test′ run run′ h p s =
     sim-bind (h .0 s) λ v s₁. sim-need _ p s₁ λ t.
-    sim-branch t (sim-bind (h .1 s₁) λ u s₂. enter-sim le p s₂ (rounds-sim le n n′ (le-of-suc-le-suc m) test test′ run run′ h p (take-unit s₂))) (same (aOk pHere))
+    sim-branch t (sim-then (h .1 s₁) λ s₂. enter-sim le p s₂ (rounds-sim le n n′ (le-of-suc-le-suc m) test test′ run run′ h p (take-unit s₂))) (same (aOk pHere))
 
 module _ {r r′ : Level} (h : SimLevel r r′) where
   exprs-sim : (es : Exprs) (ρ : Env) (s : State) → Sim (mark s) (exprs r es ρ s) (exprs r′ es ρ s)
@@ -210,11 +225,15 @@ module _ {r r′ : Level} (h : SimLevel r r′) where
 
   cmds-sim : (cs : Cmds) (ρ : Env) (s : State) → Sim (mark s) (cmds r cs ρ s) (cmds r′ cs ρ s)
   cmds-sim (def-then d cs) ρ s = sim-bind (h .def-sim d ρ s) λ ρ₁ s₁. cmds-sim cs ρ₁ s₁
-  cmds-sim (stat-then c cs) ρ s = sim-bind (h .stat-sim c ρ s) λ u s₁. cmds-sim cs ρ s₁
+  cmds-sim (stat-then c cs) ρ s = sim-then (h .stat-sim c ρ s) λ s₁. cmds-sim cs ρ s₁
   cmds-sim (last c) ρ s = h .stat-sim c ρ s
 
   pub block-sim : (b : Block) (ρ : Env) (s : State) → Sim (mark s) (in-block r b ρ s) (in-block r′ b ρ s)
   block-sim (block p cs) ρ s = cmds-sim cs ρ s
+
+  body-sim : (b : Body) (ρ : Env) (p : ℕ) (s : State) → Sim (mark s) (in-body r b ρ p s) (in-body r′ b ρ p s)
+  body-sim (an-expr e) ρ p s = h .expr-sim e ρ s
+  body-sim (a-block b) ρ p s = sim-bind (block-sim b ρ s) λ o s₁. sim-need o p s₁ λ v. same (aOk pHere)
 
   module _ {L L′ : Limits} (le : L ⊑ L′) where
     apply-sim : (g : Option Op) (p : ℕ) (f : Expr) (es : Exprs) (ρ : Env) (s : State) →
@@ -222,7 +241,7 @@ module _ {r r′ : Level} (h : SimLevel r r′) where
     apply-sim (some o) p f es ρ s = sim-bind (exprs-sim es ρ s) λ vs s₁. sim-need _ p s₁ λ c. give-sim c p s₁
     apply-sim none p f es ρ s =
         sim-bind (h .expr-sim f ρ s) λ v s₁. sim-bind (exprs-sim es ρ s₁) λ vs s₂. sim-need _ p s₂ λ c.
-        make-sim le (c .count) p s₂ (h .expr-sim (c .body) (c .env) (take-bindings (c .count) s₂))
+        make-sim le (c .count) p s₂ (body-sim (c .body) (c .env) p (take-bindings (c .count) s₂))
 
     expr-rule-sim : (e : Expr) (ρ : Env) (s : State) → Sim (mark s) (expr-rule L r e ρ s) (expr-rule L′ r′ e ρ s)
     expr-rule-sim (num p n) ρ s = same (aOk pHere)
@@ -248,6 +267,8 @@ module _ {r r′ : Level} (h : SimLevel r r′) where
     def-rule-sim (const p (at q x) t e) ρ s = sim-bind (h .expr-sim e ρ s) λ v s₁. make-sim le 1 p s₁ (same (aOk pHere))
     def-rule-sim (fun p (at q x) t ps e) ρ s = make-sim le 1 p s (same (aOk pHere))
     def-rule-sim (fun-rec p (at q x) t ps e) ρ s = make-sim le 1 p s (same (aOk pHere))
+    def-rule-sim (fun-block p (at q x) t ps b) ρ s = make-sim le 1 p s (same (aOk pHere))
+    def-rule-sim (fun-rec-block p (at q x) t ps b) ρ s = make-sim le 1 p s (same (aOk pHere))
     def-rule-sim (var p (at q x) t) ρ s = sim-within _ _ _ p s (up _ (le .cells-le)) (sim-lift (past-cell p s) (make-sim le 1 p (with-cells (s .cells ++ fresh p ∷ []) s) (same (aOk pHere))))
     def-rule-sim (proc p (at q x) ps b) ρ s = make-sim le 1 p s (same (aOk pHere))
     def-rule-sim (proc-rec p (at q x) ps b) ρ s = make-sim le 1 p s (same (aOk pHere))
@@ -261,6 +282,7 @@ module _ {r r′ : Level} (h : SimLevel r r′) where
     stat-rule-sim (while p e b) ρ s = rounds-sim le _ _ (suc-le-suc (le .fuel-le)) _ _ _ _ ((λ s. h .expr-sim e ρ s), (λ s. block-sim b ρ s)) p s
     stat-rule-sim (call p (at q x) as′) ρ s =
         sim-need _ p s λ w. sim-bind (args-sim as′ ρ s) λ vs s₁. sim-need _ p s₁ λ c. make-sim le (c .count) p s₁ (block-sim (c .body) (c .env) (take-bindings (c .count) s₁))
+    stat-rule-sim (return p e) ρ s = sim-bind (h .expr-sim e ρ s) λ v s₁. same (aOk pHere)
 
     step-sim : SimLevel (step L r) (step L′ r′)
     step-sim = record {
@@ -300,7 +322,7 @@ level-sim le (suc d) zero m = absurd (not-suc-le-zero m)
 level-sim le (suc d) (suc d′) m = step-sim (level-sim le d d′ (le-of-suc-le-suc m)) le
 
 pub run-sim : {L L′ : Limits} → L ⊑ L′ → (b : Block) → Sim (mark start) (run L b) (run L′ b)
-run-sim {L} {L′} le b = block-sim (level-sim le (L .depth) (L′ .depth) (le .depth-le)) b empty start
+run-sim {L} {L′} le b = sim-bind (block-sim (level-sim le (L .depth) (L′ .depth) (le .depth-le)) b empty start) λ o s. ended-sim o (place-block b) s
 
 same-end : {A : Type 0} {w : Mark} {o o′ : Outcome A} → Sim w o o′ → NotLimited o → o′ ≡ o
 same-end (same h) n = refl

@@ -9,12 +9,12 @@ use mathlib.Core.Option.{Option, none, some, Option·none-ne-some, Option·some-
 use lib.Dec.{T, ltb, ltb→lt}
 use lib.IntN.{ℤ, pos, negsuc}
 use lib.ListN.{length, replicate}
-use Rattle.language.specs.Syntax.{at, Expr, num, name, if-expr, and, or, app, abs, alloc, nth-expr, len, vset, Exprs, one-expr, more-exprs, ExprP, val, adr, Cmds, last, def-then, stat-then, Def, const, fun, fun-rec, var, proc, proc-rec, Stat, echo, set, if-stat, while, call, Block, block}
+use Rattle.language.specs.Syntax.{at, Expr, num, name, if-expr, and, or, app, abs, alloc, nth-expr, len, vset, Exprs, one-expr, more-exprs, ExprP, val, adr, Cmds, last, def-then, stat-then, Def, const, fun, fun-rec, fun-block, fun-rec-block, var, proc, proc-rec, Stat, echo, set, if-stat, while, call, return, Block, block}
 use Rattle.language.specs.Answers.{LimitStop, ErrorStop}
 use Rattle.language.specs.Names.{Op, Meaning, literal, operator, free, meaning, head-operator}
 use Rattle.language.specs.Numbers.{Computed, amount, fails}
 use Rattle.language.specs.Limits.{Limits}
-use Rattle.language.specs.Rules.{Val, inZ, inF, inFR, inP, inPR, inA, inB, Env, Cell, State, Why, Outcome, ok, halt, bind, need, otherwise, within, branch, take-unit, with-cells, enter, make, look, nth, behind, fresh, store, as-number, as-address, as-block, as-size, cell-in, give, give-cell, Level, exprs, args, cmds, in-block, read, name-rule, apply-rule, alloc-rule, element-rule, expr-rule, arg-rule, def-rule, rounds, stat-rule}
+use Rattle.language.specs.Rules.{Val, inZ, inF, inFR, inP, inPR, inA, inB, Env, Cell, State, Returned, Why, Outcome, ok, halt, bind, need, otherwise, unless-returned, within, branch, take-unit, with-cells, enter, make, look, nth, behind, fresh, store, as-number, as-address, as-block, as-size, cell-in, Body, an-expr, a-block, give, give-cell, Level, exprs, args, cmds, in-block, in-body, read, name-rule, apply-rule, alloc-rule, element-rule, expr-rule, arg-rule, def-rule, rounds, stat-rule}
 use Rattle.language.specs.Outcome.{state-of}
 use Rattle.language.specs.Claims.{OthersHold, nowhere, StoresNothing, InBlock, ExprStores, ArgStores, StatStores, StoresGoToCells}
 
@@ -89,6 +89,12 @@ module _ {P : ℕ → Type 0} {cs : List Cell} where
   held-bind (ok a t) (hOk h) f = f a t refl h
   held-bind (halt w p t) (hHalt h) f = hHalt h
 
+  held-unless : {o : Outcome Returned} {k : State → Outcome Returned} → Held P cs o → ((t : State) → Hold P cs (t .cells) → Held P cs (k t)) → Held P cs (unless-returned o k)
+  unfolding unless-returned
+  held-unless (hOk {a = none} {t = t} h) f = f t h
+  held-unless (hOk {a = some v} h) f = hOk h
+  held-unless (hHalt h) f = hHalt h
+
   held-need : {A B : Type 0} (o : Option A) (p : ℕ) (t : State) {k : A → Outcome B} → Hold P cs (t .cells) → ((a : A) → o ≡ some a → Held P cs (k a)) → Held P cs (need o p t k)
   unfolding need
   held-need none p t h f = hHalt h
@@ -137,12 +143,12 @@ module _ {P : ℕ → Type 0} {cs : List Cell} where
   held-alloc : (L : Limits) (p : ℕ) (n : ℤ) (t : State) → Hold P cs (t .cells) → Held P cs (alloc-rule L p n t)
   held-alloc L p n t h = held-otherwise (as-size n) _ p t h λ k _. held-within _ _ p t h (hOk (hold-more (replicate k (fresh p)) h))
 
-  held-rounds : (L : Limits) (n : ℕ) (test : State → Outcome Val) (run : State → Outcome (Unit {0})) →
+  held-rounds : (L : Limits) (n : ℕ) (test : State → Outcome Val) (run : State → Outcome Returned) →
       ((t : State) → Hold P cs (t .cells) → Held P cs (test t)) → ((t : State) → Hold P cs (t .cells) → Held P cs (run t)) →
       (p : ℕ) (t : State) → Hold P cs (t .cells) → Held P cs (rounds L n test run p t)
   held-rounds L zero test run f g p t h = hHalt h
   held-rounds L (suc n) test run f g p t h = held-bind (test t) (f t h) λ v t₁ _ h₁. held-need _ p t₁ h₁ λ b _.
-      held-branch b (held-bind (run t₁) (g t₁ h₁) λ u t₂ _ h₂. held-within _ _ p t₂ h₂ (held-rounds L n test run f g p (take-unit t₂) h₂)) (hOk h₁)
+      held-branch b (held-unless (g t₁ h₁) λ t₂ h₂. held-within _ _ p t₂ h₂ (held-rounds L n test run f g p (take-unit t₂) h₂)) (hOk h₁)
 
   -- ---- parts, and rules that store nothing themselves
   module _ (L : Limits) {r : Level} (n : StoresNothing r) where
@@ -163,16 +169,20 @@ module _ {P : ℕ → Type 0} {cs : List Cell} where
 
     cmds-h : (ks : Cmds) (ρ : Env) (t : State) → Hold P cs (t .cells) → Held P cs (cmds r ks ρ t)
     cmds-h (def-then d ks) ρ t h = held-bind _ (held-part t (r .def d ρ t) h (n .def-stores d ρ t)) λ ρ₁ t₁ _ h₁. cmds-h ks ρ₁ t₁ h₁
-    cmds-h (stat-then c ks) ρ t h = held-bind _ (stat-h c ρ t h) λ u t₁ _ h₁. cmds-h ks ρ t₁ h₁
+    cmds-h (stat-then c ks) ρ t h = held-unless (stat-h c ρ t h) λ t₁ h₁. cmds-h ks ρ t₁ h₁
     cmds-h (last c) ρ t h = stat-h c ρ t h
 
     block-h : (b : Block) (ρ : Env) (t : State) → Hold P cs (t .cells) → Held P cs (in-block r b ρ t)
     block-h (block p ks) ρ t h = cmds-h ks ρ t h
 
+    body-h : (b : Body) (ρ : Env) (p : ℕ) (t : State) → Hold P cs (t .cells) → Held P cs (in-body r b ρ p t)
+    body-h (an-expr e) ρ p t h = expr-h e ρ t h
+    body-h (a-block b) ρ p t h = held-bind _ (block-h b ρ t h) λ o t₁ _ h₁. held-need o p t₁ h₁ λ v _. hOk h₁
+
     apply-h : (g : Option Op) (p : ℕ) (f : Expr) (es : Exprs) (ρ : Env) (t : State) → Hold P cs (t .cells) → Held P cs (apply-rule L r g p f es ρ t)
     apply-h (some o) p f es ρ t h = held-bind _ (exprs-h es ρ t h) λ vs t₁ _ h₁. held-need _ p t₁ h₁ λ c _. held-give c p t₁ h₁
     apply-h none p f es ρ t h = held-bind _ (expr-h f ρ t h) λ v t₁ _ h₁. held-bind _ (exprs-h es ρ t₁ h₁) λ vs t₂ _ h₂. held-need _ p t₂ h₂ λ c _.
-        held-within _ _ p t₂ h₂ (expr-h (c .body) (c .env) _ h₂)
+        held-within _ _ p t₂ h₂ (body-h (c .body) (c .env) p _ h₂)
 
 -- ---- vset's cell is one of its block's
 
@@ -232,6 +242,8 @@ module _ (L : Limits) {r : Level} (n : StoresNothing r) where
   def-held (const p (at q x) y e) ρ s = held-bind _ (expr-h L n e ρ s here) λ v t _ h. held-within _ _ p t h (hOk h)
   def-held (fun p (at q x) y ps e) ρ s = held-within _ _ p s here (hOk here)
   def-held (fun-rec p (at q x) y ps e) ρ s = held-within _ _ p s here (hOk here)
+  def-held (fun-block p (at q x) y ps b) ρ s = held-within _ _ p s here (hOk here)
+  def-held (fun-rec-block p (at q x) y ps b) ρ s = held-within _ _ p s here (hOk here)
   def-held (var p (at q x) y) ρ s =
       let h = hold-more (fresh p ∷ []) here in held-within _ _ p s here (held-within _ _ p (with-cells (s .cells ++ fresh p ∷ []) s) h (hOk h))
   def-held (proc p (at q x) ps b) ρ s = held-within _ _ p s here (hOk here)
@@ -247,6 +259,7 @@ module _ (L : Limits) {r : Level} (n : StoresNothing r) where
   stat-held (while p e b) ρ s = held-rounds L (suc (L .fuel)) (r .expr e ρ) (in-block r b ρ) (λ t h. expr-h L n e ρ t h) (λ t h. block-h L n b ρ t h) p s here
   stat-held (call p (at q x) as′) ρ s =
       held-need _ p s here λ w _. held-bind _ (args-h L n as′ ρ s here) λ vs t _ h. held-need _ p t h λ c _. held-within _ _ p t h (block-h L n (c .body) (c .env) _ h)
+  stat-held (return p e) ρ s = held-bind _ (expr-h L n e ρ s here) λ v t _ h. hOk h
 
 pub stores-go-to-cells : StoresGoToCells
 stores-go-to-cells L r n ρ s = (

@@ -3,7 +3,7 @@ use mathlib.Core.Path.{_≡_}
 use mathlib.Core.List.{List, [], _∷_}
 use Prim.Native.Nat.{ℕ, zero, suc, _+_, _≤_}
 use native.Mathlib.Omega.{arith}
-use Rattle.language.specs.Syntax.{TypeTree, bool, int, arrow, vec, TypeTrees, one-type, more-types, Arg, arg, ArgP, val-arg, var-arg, Expr, num, name, if-expr, and, or, app, abs, alloc, nth-expr, len, vset, Exprs, one-expr, more-exprs, ExprP, val, adr, Cmds, last, def-then, stat-then, Def, const, fun, fun-rec, var, proc, proc-rec, Stat, echo, set, if-stat, while, call, Block, block}
+use Rattle.language.specs.Syntax.{TypeTree, bool, int, arrow, vec, TypeTrees, one-type, more-types, Arg, arg, ArgP, val-arg, var-arg, Expr, num, name, if-expr, and, or, app, abs, alloc, nth-expr, len, vset, Exprs, one-expr, more-exprs, ExprP, val, adr, Cmds, last, def-then, stat-then, Def, const, fun, fun-rec, fun-block, fun-rec-block, var, proc, proc-rec, Stat, echo, set, if-stat, while, call, return, Block, block}
 use Rattle.language.specs.Levels.{levelsType, levelsTypes, levelsArg, levelsArgs, levelsArgP, levelsArgsP, levelsExpr, levelsExprs, levelsExprP, levelsExprsP, levelsCmds, levelsDef, levelsStat, levelsBlock, levels, deepest}
 use Rattle.language.specs.Reading.{Within, a-level}
 use Rattle.language.specs.Types.{values}
@@ -102,6 +102,10 @@ mutual
       let y = fits-type t d n _ e (rest (rest w)) in let v = fits-args ps d n _ e (rest (y .1)) in let z = fits-expr a d n l e (v .1) in ((y .0, v .0, z .0), z .1)
   fits-def (fun-rec p x t ps a) d n l e w =
       let y = fits-type t d n _ e (rest (rest (rest w))) in let v = fits-args ps d n _ e (rest (y .1)) in let z = fits-expr a d n l e (v .1) in ((y .0, v .0, z .0), z .1)
+  fits-def (fun-block p x t ps b) d n l e w =
+      let y = fits-type t d n _ e (rest (rest w)) in let v = fits-args ps d n _ e (rest (y .1)) in let z = fits-block-at b d n l e (v .1) in ((y .0, v .0, z .0), z .1)
+  fits-def (fun-rec-block p x t ps b) d n l e w =
+      let y = fits-type t d n _ e (rest (rest (rest w))) in let v = fits-args ps d n _ e (rest (y .1)) in let z = fits-block-at b d n l e (v .1) in ((y .0, v .0, z .0), z .1)
   fits-def (var p x t) d n l e w = fits-type t d n l e (rest (rest w))
   fits-def (proc p x ps b) d n l e w = let y = fits-argsp ps d n _ e (rest (rest (rest w))) in let z = fits-block-at b d n l e (y .1) in ((y .0, z .0), z .1)
   fits-def (proc-rec p x ps b) d n l e w = let y = fits-argsp ps d n _ e (rest (rest (rest (rest w)))) in let z = fits-block-at b d n l e (y .1) in ((y .0, z .0), z .1)
@@ -113,6 +117,7 @@ mutual
       let x = fits-expr a d n _ e (rest w) in let y = fits-block-at b d n _ e (x .1) in let z = fits-block-at c d n l e (y .1) in ((x .0, y .0, z .0), z .1)
   fits-stat (while p a b) d n l e w = let x = fits-expr a d n _ e (rest w) in let y = fits-block-at b d n l e (x .1) in ((x .0, y .0), y .1)
   fits-stat (call p x as′) d n l e w = fits-exprsp as′ d n l e (rest (rest w))
+  fits-stat (return p a) d n l e w = fits-expr a d n l e (rest w)
 
   fits-block-at : (b : Block) (d n : ℕ) (l : List ℕ) → d + n ≡ deepest → Within deepest (levelsBlock b d l) → FitsBlock b n × Within deepest l
   fits-block-at (block p c) d n l e w = opened d n _ l e (top w) λ m f. let x = fits-cmds c (suc d) m _ f (rest w) in (x .0, rest (x .1))

@@ -4,12 +4,12 @@ use Prim.Native.Nat.{ℕ}
 use mathlib.Core.Bool.{Bool, true, false}
 use mathlib.Core.List.{List, [], _∷_}
 use mathlib.Core.Option.{Option, none, some}
-use Rattle.language.specs.Syntax.{Name, at, TypeTree, bool, int, arrow, vec, TypeTrees, one-type, more-types, ArgP, val-arg, var-arg, Expr, num, name, if-expr, and, or, app, abs, alloc, nth-expr, len, vset, Exprs, one-expr, more-exprs, ExprP, val, adr, Cmds, last, def-then, stat-then, Def, const, fun, fun-rec, var, proc, proc-rec, Stat, echo, set, if-stat, while, call, Block, block}
-use Rattle.language.specs.Places.{place-param}
+use Rattle.language.specs.Syntax.{Name, at, TypeTree, bool, int, arrow, vec, TypeTrees, one-type, more-types, ArgP, val-arg, var-arg, Expr, num, name, if-expr, and, or, app, abs, alloc, nth-expr, len, vset, Exprs, one-expr, more-exprs, ExprP, val, adr, Cmds, last, def-then, stat-then, Def, const, fun, fun-rec, fun-block, fun-rec-block, var, proc, proc-rec, Stat, echo, set, if-stat, while, call, return, Block, block}
+use Rattle.language.specs.Places.{place-param, place-stat, place-block}
 use Rattle.language.specs.Answers.{TYPE, DOUBLE, Result, fine, refuse}
 use Rattle.language.specs.Names.{Op, Meaning, literal, operator, free, meaning, head-operator}
-use Rattle.language.specs.Types.{Base, boolean, integer, Ty, base, fn, vec-of, Tys, tnil, tcons, BOOL, INT, typeOf, Par, value, ref, Entity, plain, procedure, Ctx, find, extend, values, pars, param-type, param-name, declared, arg-types, fun-type, takes, result}
-use Rattle.language.specs.Typing.{among}
+use Rattle.language.specs.Types.{Base, boolean, integer, Ty, base, fn, vec-of, Tys, tnil, tcons, BOOL, INT, typeOf, Par, value, ref, Entity, plain, procedure, Ctx, find, extend, values, pars, param-type, param-name, declared, arg-types, fun-type, Flow, never, may, always, takes, result}
+use Rattle.language.specs.Typing.{looped, among}
 use Rattle.language.specs.Order.{after-def}
 
 module _ {A B : Type 0} where
@@ -214,14 +214,51 @@ unfoldable pub judge-args : Ctx → List ExprP → Result (List Par)
 judge-args Γ [] = fine []
 judge-args Γ (a ∷ as′) = andThen (judge-arg Γ a) λ q. andThen (judge-args Γ as′) λ qs. fine (q ∷ qs)
 
-unfoldable mutual
-  pub judge-block : Ctx → Block → Result (Unit {0})
-  judge-block Γ (block p cs) = judge-cmds Γ cs
+-- how commands return
+abbrev pub is-never : Flow → Bool
+is-never never = true
+is-never (may t) = false
+is-never (always t) = false
 
-  pub judge-cmds : Ctx → Cmds → Result (Unit {0})
+abbrev pub is-always : Flow → Ty → Bool
+is-always never u = false
+is-always (may t) u = false
+is-always (always t) u = same-type t u
+
+abbrev pub goes-on : Flow → Bool
+goes-on never = true
+goes-on (may t) = true
+goes-on (always t) = false
+
+abbrev pub either-flow : Flow → Flow → Option Flow
+either-flow never never = some never
+either-flow never (may t) = some (may t)
+either-flow never (always t) = some (may t)
+either-flow (may t) never = some (may t)
+either-flow (may t) (may u) = only (same-type t u) (some (may t))
+either-flow (may t) (always u) = only (same-type t u) (some (may t))
+either-flow (always t) never = some (may t)
+either-flow (always t) (may u) = only (same-type t u) (some (may t))
+either-flow (always t) (always u) = only (same-type t u) (some (always t))
+
+-- a statement and the commands behind it; none where they do not go together, which is for their block to say
+abbrev pub sequel : Flow → Option Flow → Option Flow
+sequel f none = none
+sequel never (some g) = some g
+sequel (may t) (some never) = none
+sequel (may t) (some (may u)) = only (same-type u t) (some (may u))
+sequel (may t) (some (always u)) = only (same-type u t) (some (always u))
+sequel (always t) (some g) = none
+
+unfoldable mutual
+  pub judge-block : Ctx → Block → Result Flow
+  judge-block Γ (block p cs) = andThen (judge-cmds Γ cs) λ o. judged p o
+
+  pub judge-cmds : Ctx → Cmds → Result (Option Flow)
   judge-cmds Γ (def-then d cs) = andThen (judge-def Γ d) λ u. judge-cmds (after-def d Γ) cs
-  judge-cmds Γ (stat-then c cs) = andThen (judge-stat Γ c) λ u. judge-cmds Γ cs
-  judge-cmds Γ (last c) = judge-stat Γ c
+  judge-cmds Γ (stat-then c cs) =
+      andThen (judge-stat Γ c) λ f. andThen (passes (place-stat c) (goes-on f)) λ u. andThen (judge-cmds Γ cs) λ o. fine (sequel f o)
+  judge-cmds Γ (last c) = andThen (judge-stat Γ c) λ f. fine (some f)
 
   pub judge-def : Ctx → Def → Result (Unit {0})
   judge-def Γ (const p (at q x) t e) = andThen (judge-type t) λ w. andThen (judge-expr Γ e) λ u. passes p (andb (is-free (meaning x)) (same-type u (typeOf t)))
@@ -231,18 +268,27 @@ unfoldable mutual
   judge-def Γ (fun-rec p (at q x) t ps e) =
       andThen (judge-type t) λ w. andThen (judge-params (values ps)) λ v. andThen (judge-expr ((x, plain (value (fun-type ps t))) ∷ extend (declared (values ps)) Γ) e) λ u.
       passes p (andb (is-free (meaning x)) (same-type u (typeOf t)))
+  judge-def Γ (fun-block p (at q x) t ps b) =
+      andThen (judge-type t) λ w. andThen (judge-params (values ps)) λ v. andThen (judge-block (extend (declared (values ps)) Γ) b) λ f.
+      passes p (andb (is-free (meaning x)) (is-always f (typeOf t)))
+  judge-def Γ (fun-rec-block p (at q x) t ps b) =
+      andThen (judge-type t) λ w. andThen (judge-params (values ps)) λ v. andThen (judge-block ((x, plain (value (fun-type ps t))) ∷ extend (declared (values ps)) Γ) b) λ f.
+      passes p (andb (is-free (meaning x)) (is-always f (typeOf t)))
   judge-def Γ (var p (at q x) t) = andThen (judge-type t) λ w. passes p (andb (is-free (meaning x)) (is-base (typeOf t)))
-  judge-def Γ (proc p (at q x) ps b) = andThen (judge-params ps) λ v. andThen (judge-block (extend (declared ps) Γ) b) λ u. passes p (is-free (meaning x))
+  judge-def Γ (proc p (at q x) ps b) = andThen (judge-params ps) λ v. andThen (judge-block (extend (declared ps) Γ) b) λ f. passes p (andb (is-free (meaning x)) (is-never f))
   judge-def Γ (proc-rec p (at q x) ps b) =
-      andThen (judge-params ps) λ v. andThen (judge-block ((x, procedure (pars ps)) ∷ extend (declared ps) Γ) b) λ u. passes p (is-free (meaning x))
+      andThen (judge-params ps) λ v. andThen (judge-block ((x, procedure (pars ps)) ∷ extend (declared ps) Γ) b) λ f.
+      passes p (andb (is-free (meaning x)) (is-never f))
 
-  pub judge-stat : Ctx → Stat → Result (Unit {0})
-  judge-stat Γ (echo p e) = andThen (judge-expr Γ e) λ t. passes p (same-type t INT)
-  judge-stat Γ (set p (at q x) e) = andThen (judge-expr Γ e) λ t. passes p (fits-ref (ref-type (find Γ x)) t)
-  judge-stat Γ (if-stat p e a b) = andThen (judge-expr Γ e) λ t. andThen (judge-block Γ a) λ u. andThen (judge-block Γ b) λ v. passes p (same-type t BOOL)
-  judge-stat Γ (while p e b) = andThen (judge-expr Γ e) λ t. andThen (judge-block Γ b) λ u. passes p (same-type t BOOL)
-  judge-stat Γ (call p (at q x) as′) = andThen (judge-args Γ as′) λ qs. passes p (fits-call (call-pars (find Γ x)) qs)
+  pub judge-stat : Ctx → Stat → Result Flow
+  judge-stat Γ (echo p e) = andThen (judge-expr Γ e) λ t. judged p (only (same-type t INT) (some never))
+  judge-stat Γ (set p (at q x) e) = andThen (judge-expr Γ e) λ t. judged p (only (fits-ref (ref-type (find Γ x)) t) (some never))
+  judge-stat Γ (if-stat p e a b) =
+      andThen (judge-expr Γ e) λ t. andThen (judge-block Γ a) λ f. andThen (judge-block Γ b) λ g. judged p (only (same-type t BOOL) (either-flow f g))
+  judge-stat Γ (while p e b) = andThen (judge-expr Γ e) λ t. andThen (judge-block Γ b) λ f. judged p (only (same-type t BOOL) (some (looped f)))
+  judge-stat Γ (call p (at q x) as′) = andThen (judge-args Γ as′) λ qs. judged p (only (fits-call (call-pars (find Γ x)) qs) (some never))
+  judge-stat Γ (return p e) = andThen (judge-expr Γ e) λ t. judged p (some (always t))
 
--- a program, judged from no names
+-- a program, judged from no names, and once more as a program
 abbrev pub judge : Block → Result (Unit {0})
-judge b = judge-block [] b
+judge b = andThen (judge-block [] b) λ f. passes (place-block b) (is-never f)

@@ -6,16 +6,16 @@ use mathlib.Core.Bool.{Bool, true, false}
 use mathlib.Core.List.{List, [], _∷_, _++_}
 use mathlib.Core.Option.{Option, none, some}
 use lib.Dec.{T}
-use Rattle.language.specs.Syntax.{Name, at, TypeTree, bool, int, arrow, vec, TypeTrees, one-type, more-types, ArgP, Expr, num, name, if-expr, and, or, app, abs, alloc, nth-expr, len, vset, Exprs, one-expr, more-exprs, ExprP, val, adr, Cmds, last, def-then, stat-then, Def, const, fun, fun-rec, var, proc, proc-rec, Stat, echo, set, if-stat, while, call, Block, block}
-use Rattle.language.specs.Places.{place-expr, place-param}
+use Rattle.language.specs.Syntax.{Name, at, TypeTree, bool, int, arrow, vec, TypeTrees, one-type, more-types, ArgP, Expr, num, name, if-expr, and, or, app, abs, alloc, nth-expr, len, vset, Exprs, one-expr, more-exprs, ExprP, val, adr, Cmds, last, def-then, stat-then, Def, const, fun, fun-rec, fun-block, fun-rec-block, var, proc, proc-rec, Stat, echo, set, if-stat, while, call, return, Block, block}
+use Rattle.language.specs.Places.{place-expr, place-param, place-stat, place-block}
 use Rattle.language.specs.Answers.{Refusal, TYPE, Result, fine, refuse}
 use Rattle.language.specs.Names.{Op, Meaning, literal, operator, free, meaning, head-operator}
-use Rattle.language.specs.Types.{Ty, base, fn, vec-of, Tys, tnil, tcons, BOOL, INT, typeOf, Par, value, ref, Entity, plain, procedure, Ctx, find, extend, values, param-type, param-name, declared, takes}
-use Rattle.language.specs.Typing.{Free, Formed, AllFormed, Declarable, Single, DeclarableAfter, AllDeclarable, among, HasE, NUM, LITERAL, IDV, IDR, IF, AND, OR, PRIM, APP, ABS, ALLOC, NTH, LEN, VSET, HasEs, ONE, MORE, HasA, REF, VAL, HasAs, NO-ARGS, ARGS, HasB, BLOC, HasC, DECS, STATS, END, HasD, CONST, FUN, FUNREC, VAR, PROC, PROCREC, HasS, ECHO, SET, IFS, WHILE, CALL, Typable}
-use Rattle.language.specs.Order.{JudgedNode, expr-node, adr-node, vec-node, param-node, single-node, def-node, stat-node, place-node, refusal-node, Typed, after-def, nodes-type, nodes-types, nodes-after, nodes-params, nodes-head, nodes-expr, nodes-exprs, nodes-arg, nodes-args, nodes-block, nodes-cmds, nodes-def, nodes-stat, FirstBad, here, later, TypeRefused}
-use Rattle.language.proofs.typing.Judge.{andThen, judged, only, passes, single, andb, same-type, same-types, is-free, is-base, is-element, name-type, if-type, bools-type, prim-type, app-type, alloc-type, nth-type, len-type, vset-type, judge-app, judge-type, judge-types, judge-after, judge-params, judge-expr, judge-exprs, ref-type, call-pars, fits-ref, fits-call, as-ref, judge-arg, judge-args, judge-block, judge-cmds, judge-def, judge-stat, judge}
-use Rattle.language.proofs.typing.SameType.{andb-l, andb-r, same-type-is, same-types-is, same-pars-is, free-is, base-is, element-in, element-is, declarable-in, declarable-is}
-use Rattle.language.proofs.typing.Unique.{Is, is, IsO, isO, is-pass, complete-type, complete-params, complete-expr, complete-exprs, complete-arg, complete-args, complete-block, complete-def, complete-stat}
+use Rattle.language.specs.Types.{Ty, base, fn, vec-of, Tys, tnil, tcons, BOOL, INT, typeOf, Par, value, ref, Entity, plain, procedure, Ctx, find, extend, values, param-type, param-name, declared, Flow, never, may, always, takes}
+use Rattle.language.specs.Typing.{Free, Formed, AllFormed, Declarable, Single, DeclarableAfter, AllDeclarable, among, HasE, NUM, LITERAL, IDV, IDR, IF, AND, OR, PRIM, APP, ABS, ALLOC, NTH, LEN, VSET, HasEs, ONE, MORE, HasA, REF, VAL, HasAs, NO-ARGS, ARGS, Either, both-never, both-always, never-may, never-always, may-never, may-may, may-always, always-never, always-may, GoesOn, Before, after-never, after-may, then-always, HasB, BLOC, HasC, DECS, STATS, END, HasD, CONST, FUN, FUNREC, VAR, PROC, PROCREC, HasS, FUNP, FUNRECP, ECHO, SET, IFS, WHILE, CALL, RET, Typable}
+use Rattle.language.specs.Order.{JudgedNode, expr-node, adr-node, vec-node, param-node, single-node, def-node, stat-node, followed-node, block-node, prog-node, place-node, refusal-node, Typed, after-def, nodes-type, nodes-types, nodes-after, nodes-params, nodes-head, nodes-expr, nodes-exprs, nodes-arg, nodes-args, nodes-block, nodes-cmds, nodes-def, nodes-stat, nodes-prog, FirstBad, here, later, TypeRefused}
+use Rattle.language.proofs.typing.Judge.{andThen, judged, only, passes, single, andb, same-type, same-types, is-free, is-base, is-element, name-type, if-type, bools-type, prim-type, app-type, alloc-type, nth-type, len-type, vset-type, judge-app, judge-type, judge-types, judge-after, judge-params, judge-expr, judge-exprs, ref-type, call-pars, fits-ref, fits-call, as-ref, judge-arg, judge-args, is-never, goes-on, either-flow, sequel, judge-block, judge-cmds, judge-def, judge-stat, judge}
+use Rattle.language.proofs.typing.SameType.{andb-l, andb-r, same-type-is, same-types-is, same-pars-is, never-is, always-is, goes-is, goes-in, free-is, base-is, element-in, element-is, declarable-in, declarable-is}
+use Rattle.language.proofs.typing.Unique.{Is, is, IsO, isO, is-pass, complete-type, complete-params, complete-expr, complete-exprs, complete-arg, complete-args, complete-block, complete-def, complete-stat, unique-flows, unique-stat, complete-prog}
 
 pub data AllTyped : List JudgedNode → Type 0 where
   allNil : AllTyped []
@@ -48,6 +48,13 @@ seq : {A B : Type 0} {P : A → Type 0} {Q : B → Type 0} {R R′ : List Judged
 unfolding andThen
 seq (vfine {a = a} p al) f = shift al (f a p)
 seq {R′ = R′} (vbad b) f = vbad (first-app R′ b)
+
+-- the same, with what the part came to
+seq-is : {A B : Type 0} {P : A → Type 0} {Q : B → Type 0} {R R′ : List JudgedNode} {o : Result A} {k : A → Result B} → View P R o →
+    ((a : A) → P a → Is a o → View Q R′ (k a)) → View Q (R ++ R′) (andThen o k)
+unfolding andThen
+seq-is (vfine {a = a} p al) f = shift al (f a p is)
+seq-is {R′ = R′} (vbad b) f = vbad (first-app R′ b)
 
 -- a part, and then a result of it
 seq-fine : {A B : Type 0} {P : A → Type 0} {Q : B → Type 0} {R : List JudgedNode} {o : Result A} (f : A → B) → View P R o → ((a : A) → P a → Q (f a)) →
@@ -249,14 +256,14 @@ view-args [] Γ = vfine NO-ARGS allNil
 view-args (a ∷ as′) Γ = seq (view-arg a Γ) λ q h. seq-fine (λ qs. q ∷ qs) (view-args as′ Γ) λ qs hs. ARGS h hs
 
 set-own : {Γ : Ctx} {p q : ℕ} {x : Name} {e : Expr} {t : Ty} (o : Option Entity) → find Γ x ≡ o → HasE Γ e t → T (fits-ref (ref-type o) t) →
-    HasS Γ (set p (at q x) e)
+    HasS Γ (set p (at q x) e) never
 set-own none f h b = absurd b
 set-own (some (plain (value u))) f h b = absurd b
 set-own (some (plain (ref u))) f h b = SET f (as-type u b h)
 set-own (some (procedure qs)) f h b = absurd b
 
 call-own : {Γ : Ctx} {p q : ℕ} {x : Name} {as′ : List ExprP} {rs : List Par} (o : Option Entity) → find Γ x ≡ o → HasAs Γ as′ rs →
-    T (fits-call (call-pars o) rs) → HasS Γ (call p (at q x) as′)
+    T (fits-call (call-pars o) rs) → HasS Γ (call p (at q x) as′) never
 call-own none f h b = absurd b
 call-own (some (plain q)) f h b = absurd b
 call-own {Γ} {as′ = as′} {rs = rs} (some (procedure qs)) f h b = CALL f (subst (λ rs. HasAs Γ as′ rs) (same-pars-is rs qs b) h)
@@ -266,16 +273,61 @@ typed-def : {X : Type 0} {Γ : Ctx} {e : Expr} (x : Name) (v t : Ty) → (Free x
     T (andb (is-free (meaning x)) (same-type v t)) → X
 typed-def x v t rule h b = rule (free-is x (andb-l (is-free (meaning x)) (same-type v t) b)) (as-type t (andb-r (is-free (meaning x)) (same-type v t) b) h)
 
+-- the same where its part is a block
+block-def : {X : Type 0} {Γ : Ctx} {b : Block} (x : Name) (f g : Flow) (test : Bool) → (T test → f ≡ g) → (Free x → HasB Γ b g → X) → HasB Γ b f →
+    T (andb (is-free (meaning x)) test) → X
+block-def {Γ = Γ} {b = b} x f g test i rule h t =
+    rule (free-is x (andb-l (is-free (meaning x)) test t)) (subst (λ f. HasB Γ b f) (i (andb-r (is-free (meaning x)) test t)) h)
+
+-- what goes together
+only-own : {A : Type 0} (X : A → Type 0) {a : A} (b : Bool) → (T b → X a) → (c : A) → IsO c (only b (some a)) → X c
+only-own X b f c i = let u = only-inv b i in subst X (isO-uniq (u .1)) (f (u .0))
+
+same-own : (X : Ty → Flow → Type 0) {f : Flow} (t u : Ty) → X t f → (h : Flow) → IsO h (only (same-type t u) (some f)) → X u h
+same-own X {f} t u x h i = only-own (X u) (same-type t u) (λ b. subst (λ t. X t f) (same-type-is t u b) x) h i
+
+either-own : (f g h : Flow) → IsO h (either-flow f g) → Either f g h
+either-own never never h isO = both-never
+either-own never (may t) h isO = never-may
+either-own never (always t) h isO = never-always
+either-own (may t) never h isO = may-never
+either-own (may t) (may u) h i = same-own (λ u h. Either (may t) (may u) h) t u may-may h i
+either-own (may t) (always u) h i = same-own (λ u h. Either (may t) (always u) h) t u may-always h i
+either-own (always t) never h isO = always-never
+either-own (always t) (may u) h i = same-own (λ u h. Either (always t) (may u) h) t u always-may h i
+either-own (always t) (always u) h i = same-own (λ u h. Either (always t) (always u) h) t u both-always h i
+
+sequel-own : (f : Flow) (o : Option Flow) (h : Flow) → IsO h (sequel f o) → (g : Flow) × IsO g o × Before f g × (g ≡ h)
+sequel-own f none h i = absurd (no-isO i)
+sequel-own never (some g) h isO = (g, isO, after-never, refl)
+sequel-own (may t) (some never) h i = absurd (no-isO i)
+sequel-own (may t) (some (may u)) h i =
+    (may u, isO, same-own (λ v h. Before (may v) (may u)) u t after-may h i, only-own (λ h. may u ≡ h) (same-type u t) (λ b. refl) h i)
+sequel-own (may t) (some (always u)) h i =
+    (always u, isO, same-own (λ v h. Before (may v) (always u)) u t then-always h i, only-own (λ h. always u ≡ h) (same-type u t) (λ b. refl) h i)
+sequel-own (always t) (some g) h i = absurd (no-isO i)
+
+st : {Γ : Ctx} {c : Stat} (o : Option Flow) → ((f : Flow) → IsO f o → HasS Γ c f) → ((f : Flow) → HasS Γ c f → Is f (judged (place-stat c) o)) →
+    View (HasS Γ c) (stat-node Γ c ∷ []) (judged (place-stat c) o)
+st {Γ} {c} o f g = own (stat-node Γ c) (place-stat c) o refl f (λ h k. (h, k)) (λ k. (k .0, g (k .0) (k .1)))
+
+-- commands, and how they return where they go together
+abbrev CmdsAs : Ctx → Cmds → Option Flow → Type 0
+CmdsAs Γ cs o = (f : Flow) → IsO f o → HasC Γ cs f
+
 mutual
   unfolding judge-cmds nodes-cmds
 
-  pub view-block : (b : Block) (Γ : Ctx) → View (λ u. HasB Γ b) (nodes-block Γ b) (judge-block Γ b)
-  view-block (block p cs) Γ = map-view (λ u h. BLOC h) (view-cmds cs Γ)
+  pub view-block : (b : Block) (Γ : Ctx) → View (HasB Γ b) (nodes-block Γ b) (judge-block Γ b)
+  view-block (block p cs) Γ = seq-is (view-cmds cs Γ) λ o h e.
+      own (block-node Γ (block p cs)) p o refl (λ f i. BLOC (h f i)) (λ f k. (f, k)) (λ k. (k .0, peel _ e (complete-block (block p cs) (k .1))))
 
-  pub view-cmds : (cs : Cmds) (Γ : Ctx) → View (λ u. HasC Γ cs) (nodes-cmds Γ cs) (judge-cmds Γ cs)
-  view-cmds (def-then d cs) Γ = seq (view-def d Γ) λ u h. map-view (λ u hs. DECS h hs) (view-cmds cs (after-def d Γ))
-  view-cmds (stat-then c cs) Γ = seq (view-stat c Γ) λ u h. map-view (λ u hs. STATS h hs) (view-cmds cs Γ)
-  view-cmds (last c) Γ = map-view (λ u h. END h) (view-stat c Γ)
+  pub view-cmds : (cs : Cmds) (Γ : Ctx) → View (CmdsAs Γ cs) (nodes-cmds Γ cs) (judge-cmds Γ cs)
+  view-cmds (def-then d cs) Γ = seq (view-def d Γ) λ u h. map-view (λ o hs f i. DECS h (hs f i)) (view-cmds cs (after-def d Γ))
+  view-cmds (stat-then c cs) Γ = seq (view-stat c Γ) λ f h.
+      seq (pass {X = GoesOn f} (followed-node Γ c) (place-stat c) _ refl (goes-is f) (λ g. (f, h, g)) (λ k. is-pass _ _ (subst (λ f. T (goes-on f)) (unique-stat c (k .1) h) (goes-in (k .0) (k .2))))) λ u g.
+      seq-fine (λ o. sequel f o) (view-cmds cs Γ) λ o hs j i. let w = sequel-own f o j i in subst (λ j. HasC Γ (stat-then c cs) j) (w .3) (STATS h (hs (w .0) (w .1)) (w .2))
+  view-cmds (last c) Γ = seq-fine (λ f. some f) (view-stat c Γ) λ f h g i. subst (λ g. HasC Γ (last c) g) (isO-uniq i) (END h)
 
   pub view-def : (d : Def) (Γ : Ctx) → View (λ u. HasD Γ d (after-def d Γ)) (nodes-def Γ d) (judge-def Γ d)
   view-def (const p (at q x) t e) Γ = seq (view-type t) λ w c. seq (view-expr e Γ) λ v h.
@@ -287,28 +339,44 @@ mutual
   view-def (fun-rec p (at q x) t ps e) Γ = seq (view-type t) λ w c. seq (view-params (values ps)) λ u g. seq (view-expr e _) λ v h.
       pass (def-node Γ (fun-rec p (at q x) t ps e)) p _ refl (typed-def x v (typeOf t) (λ f d. FUNREC f c g d) h) (λ k. (_, k))
       (λ k. peel _ (complete-expr e h) (peel _ (complete-params (values ps) g) (peel _ (complete-type t c) (complete-def (fun-rec p (at q x) t ps e) (k .1)))))
+  view-def (fun-block p (at q x) t ps b) Γ = seq (view-type t) λ w c. seq (view-params (values ps)) λ u g. seq (view-block b _) λ f h.
+      pass (def-node Γ (fun-block p (at q x) t ps b)) p _ refl (block-def x f (always (typeOf t)) _ (always-is f (typeOf t)) (λ n d. FUNP n c g d) h) (λ k. (_, k))
+      (λ k. peel _ (complete-block b h) (peel _ (complete-params (values ps) g) (peel _ (complete-type t c) (complete-def (fun-block p (at q x) t ps b) (k .1)))))
+  view-def (fun-rec-block p (at q x) t ps b) Γ = seq (view-type t) λ w c. seq (view-params (values ps)) λ u g. seq (view-block b _) λ f h.
+      pass (def-node Γ (fun-rec-block p (at q x) t ps b)) p _ refl (block-def x f (always (typeOf t)) _ (always-is f (typeOf t)) (λ n d. FUNRECP n c g d) h) (λ k. (_, k))
+      (λ k. peel _ (complete-block b h) (peel _ (complete-params (values ps) g) (peel _ (complete-type t c) (complete-def (fun-rec-block p (at q x) t ps b) (k .1)))))
   view-def (var p (at q x) t) Γ = seq (view-type t) λ w c. pass (def-node Γ (var p (at q x) t)) p _ refl
       (λ b. VAR (free-is x (andb-l (is-free (meaning x)) (is-base (typeOf t)) b)) (base-is (typeOf t) (andb-r (is-free (meaning x)) (is-base (typeOf t)) b)))
       (λ k. (_, k)) (λ k. peel _ (complete-type t c) (complete-def (var p (at q x) t) (k .1)))
-  view-def (proc p (at q x) ps b) Γ = seq (view-params ps) λ u g. seq (view-block b _) λ v h.
-      pass (def-node Γ (proc p (at q x) ps b)) p _ refl (λ f. PROC (free-is x f) g h) (λ k. (_, k))
+  view-def (proc p (at q x) ps b) Γ = seq (view-params ps) λ u g. seq (view-block b _) λ f h.
+      pass (def-node Γ (proc p (at q x) ps b)) p _ refl (block-def x f never _ (never-is f) (λ n d. PROC n g d) h) (λ k. (_, k))
       (λ k. peel _ (complete-block b h) (peel _ (complete-params ps g) (complete-def (proc p (at q x) ps b) (k .1))))
-  view-def (proc-rec p (at q x) ps b) Γ = seq (view-params ps) λ u g. seq (view-block b _) λ v h.
-      pass (def-node Γ (proc-rec p (at q x) ps b)) p _ refl (λ f. PROCREC (free-is x f) g h) (λ k. (_, k))
+  view-def (proc-rec p (at q x) ps b) Γ = seq (view-params ps) λ u g. seq (view-block b _) λ f h.
+      pass (def-node Γ (proc-rec p (at q x) ps b)) p _ refl (block-def x f never _ (never-is f) (λ n d. PROCREC n g d) h) (λ k. (_, k))
       (λ k. peel _ (complete-block b h) (peel _ (complete-params ps g) (complete-def (proc-rec p (at q x) ps b) (k .1))))
 
-  pub view-stat : (c : Stat) (Γ : Ctx) → View (λ u. HasS Γ c) (nodes-stat Γ c) (judge-stat Γ c)
+  pub view-stat : (c : Stat) (Γ : Ctx) → View (HasS Γ c) (nodes-stat Γ c) (judge-stat Γ c)
   view-stat (echo p e) Γ = seq (view-expr e Γ) λ t h.
-      pass (stat-node Γ (echo p e)) p _ refl (λ b. ECHO (as-type INT b h)) (λ k. k) (λ k. peel _ (complete-expr e h) (complete-stat (echo p e) k))
+      st _ (only-own (HasS Γ (echo p e)) (same-type t INT) (λ b. ECHO (as-type INT b h))) (λ f k. peel _ (complete-expr e h) (complete-stat (echo p e) k))
   view-stat (set p (at q x) e) Γ = seq (view-expr e Γ) λ t h.
-      pass (stat-node Γ (set p (at q x) e)) p _ refl (λ b. set-own (find Γ x) refl h b) (λ k. k) (λ k. peel _ (complete-expr e h) (complete-stat (set p (at q x) e) k))
-  view-stat (if-stat p e a b) Γ = seq (view-expr e Γ) λ t h. seq (view-block a Γ) λ u k. seq (view-block b Γ) λ v l.
-      pass (stat-node Γ (if-stat p e a b)) p _ refl (λ q. IFS (as-type BOOL q h) k l) (λ k. k)
-      (λ m. peel _ (complete-block b l) (peel _ (complete-block a k) (peel _ (complete-expr e h) (complete-stat (if-stat p e a b) m))))
-  view-stat (while p e b) Γ = seq (view-expr e Γ) λ t h. seq (view-block b Γ) λ u k.
-      pass (stat-node Γ (while p e b)) p _ refl (λ q. WHILE (as-type BOOL q h) k) (λ k. k) (λ m. peel _ (complete-block b k) (peel _ (complete-expr e h) (complete-stat (while p e b) m)))
+      st _ (only-own (HasS Γ (set p (at q x) e)) (fits-ref (ref-type (find Γ x)) t) (λ b. set-own (find Γ x) refl h b))
+      (λ f k. peel _ (complete-expr e h) (complete-stat (set p (at q x) e) k))
+  view-stat (if-stat p e a b) Γ = seq (view-expr e Γ) λ t h. seq (view-block a Γ) λ f k. seq (view-block b Γ) λ g l.
+      st _ (λ j i. let w = only-inv (same-type t BOOL) i in IFS (as-type BOOL (w .0) h) k l (either-own f g j (w .1)))
+      (λ j m. peel _ (complete-block b l) (peel _ (complete-block a k) (peel _ (complete-expr e h) (complete-stat (if-stat p e a b) m))))
+  view-stat (while p e b) Γ = seq (view-expr e Γ) λ t h. seq (view-block b Γ) λ f k.
+      st _ (only-own (HasS Γ (while p e b)) (same-type t BOOL) (λ q. WHILE (as-type BOOL q h) k))
+      (λ j m. peel _ (complete-block b k) (peel _ (complete-expr e h) (complete-stat (while p e b) m)))
   view-stat (call p (at q x) as′) Γ = seq (view-args as′ Γ) λ qs h.
-      pass (stat-node Γ (call p (at q x) as′)) p _ refl (λ b. call-own (find Γ x) refl h b) (λ k. k) (λ k. peel _ (complete-args as′ h) (complete-stat (call p (at q x) as′) k))
+      st _ (only-own (HasS Γ (call p (at q x) as′)) (fits-call (call-pars (find Γ x)) qs) (λ b. call-own (find Γ x) refl h b))
+      (λ f k. peel _ (complete-args as′ h) (complete-stat (call p (at q x) as′) k))
+  view-stat (return p e) Γ = seq (view-expr e Γ) λ t h.
+      st _ (λ f i. subst (λ f. HasS Γ (return p e) f) (isO-uniq i) (RET h)) (λ f k. peel _ (complete-expr e h) (complete-stat (return p e) k))
+
+pub view-prog : (b : Block) → View (λ u. Typable b) (nodes-prog b) (judge b)
+view-prog b = seq (view-block b []) λ f h.
+    pass (prog-node b) (place-block b) _ refl (λ t. subst (λ f. HasB [] b f) (never-is f t) h) (λ k. k)
+    (λ k. is-pass _ _ (subst (λ f. T (is-never f)) (unique-flows [] b never f k h) tt))
 
 -- ---- verdicts
 
@@ -344,12 +412,12 @@ view-both (vfine x al) i h = all-no-first al h
 view-both (vbad k) i h = no-is i
 
 pub judge-accepts : (b : Block) → (judge b ≡ fine tt) ↔ Typable b
-judge-accepts b = ((λ e. fine-view (subst (λ o. View (λ u. Typable b) (nodes-block [] b) o) e (view-block b []))), (λ h. is-eq (complete-block b h)))
+judge-accepts b = ((λ e. fine-view (subst (λ o. View (λ u. Typable b) (nodes-prog b) o) e (view-prog b))), (λ h. is-eq (complete-prog b h)))
 
 pub judge-refuses : (b : Block) (r : Refusal) (q : ℕ) → (judge b ≡ refuse r q) ↔ TypeRefused b r q
-judge-refuses b r q = ((λ e. bad-view (subst (λ o. View (λ u. Typable b) (nodes-block [] b) o) e (view-block b []))), (λ h. view-bad (view-block b []) h))
+judge-refuses b r q = ((λ e. bad-view (subst (λ o. View (λ u. Typable b) (nodes-prog b) o) e (view-prog b))), (λ h. view-bad (view-prog b) h))
 
 pub one-verdict : (b : Block) →
     (Typable b ⊎ ((r : Refusal) × (q : ℕ) × TypeRefused b r q)) × ((r : Refusal) (q : ℕ) → Typable b → TypeRefused b r q → ⊥) ×
     ((r r′ : Refusal) (q q′ : ℕ) → TypeRefused b r q → TypeRefused b r′ q′ → (r ≡ r′) × (q ≡ q′))
-one-verdict b = (view-one (view-block b []), (λ r q t h. view-both (view-block b []) (complete-block b t) h), (λ r r′ q q′ h k. first-unique h k))
+one-verdict b = (view-one (view-prog b), (λ r q t h. view-both (view-prog b) (complete-prog b t) h), (λ r r′ q q′ h k. first-unique h k))

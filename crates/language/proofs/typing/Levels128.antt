@@ -6,13 +6,14 @@ use native.Mathlib.Omega.{arith}
 use mathlib.Core.Bool.{Bool, true, false, cond}
 use mathlib.Core.List.{List, [], _∷_, _++_}
 use mathlib.Core.Option.{Option, none, some, Option·none-ne-some, Option·some-injective}
-use Rattle.language.specs.Syntax.{Name, at, TypeTree, bool, int, arrow, vec, TypeTrees, one-type, more-types, Arg, arg, ArgP, val-arg, var-arg, Expr, num, name, if-expr, and, or, app, abs, alloc, nth-expr, len, vset, Exprs, one-expr, more-exprs, ExprP, val, adr, Cmds, last, def-then, stat-then, Def, const, fun, fun-rec, var, proc, proc-rec, Stat, echo, set, if-stat, while, call, Block, block}
+use Rattle.language.specs.Syntax.{Name, at, TypeTree, bool, int, arrow, vec, TypeTrees, one-type, more-types, Arg, arg, ArgP, val-arg, var-arg, Expr, num, name, if-expr, and, or, app, abs, alloc, nth-expr, len, vset, Exprs, one-expr, more-exprs, ExprP, val, adr, Cmds, last, def-then, stat-then, Def, const, fun, fun-rec, fun-block, fun-rec-block, var, proc, proc-rec, Stat, echo, set, if-stat, while, call, return, Block, block}
 use Rattle.language.specs.Bytes.{same-bytes}
 use Rattle.language.specs.Names.{Op, Meaning, literal, operator, free, lookup, meaning, unless-nine, head-operator}
-use Rattle.language.specs.Types.{Ty, base, fn, vec-of, Tys, tnil, tcons, typeOf, typesOf, Par, value, ref, Entity, plain, procedure, Ctx, find, extend, values, par, param-type, declared, arg-types, fun-type}
-use Rattle.language.specs.Typing.{HasE, NUM, LITERAL, IDV, IDR, IF, AND, OR, PRIM, APP, ABS, ALLOC, NTH, LEN, VSET}
-use Rattle.language.specs.Order.{JudgedNode, expr-node, adr-node, vec-node, param-node, single-node, def-node, stat-node, after-def, nodes-type, nodes-types, nodes-after, nodes-params, nodes-head, nodes-expr, nodes-exprs, nodes-arg, nodes-args, nodes-block, nodes-cmds, nodes-def, nodes-stat}
-use Rattle.language.specs.Claims.{Opened, TyFits, TysFit, AllNodes, no-node, one-more, Comparable}
+use Rattle.language.specs.Types.{Ty, base, fn, vec-of, Tys, tnil, tcons, typeOf, typesOf, Par, value, ref, Entity, plain, procedure, Ctx, find, extend, values, par, param-type, declared, arg-types, fun-type, Flow, never, may, always}
+use Rattle.language.specs.Typing.{HasE, NUM, LITERAL, IDV, IDR, IF, AND, OR, PRIM, APP, ABS, Either, both-never, both-always, never-may, never-always, may-never, may-may, may-always, always-never, always-may, looped, HasB, BLOC, HasC, DECS, STATS, HasS, END, ECHO, SET, IFS, WHILE, CALL, RET, ALLOC, NTH, LEN, VSET}
+use Rattle.language.specs.Order.{JudgedNode, expr-node, adr-node, vec-node, param-node, single-node, def-node, stat-node, followed-node, block-node, prog-node, after-def, nodes-type, nodes-types, nodes-after, nodes-params, nodes-head, nodes-expr, nodes-exprs, nodes-arg, nodes-args, nodes-block, nodes-cmds, nodes-def, nodes-stat, nodes-prog}
+use Rattle.language.specs.Claims.{Opened, TyFits, TysFit, FlowFits, AllNodes, no-node, one-more, Comparable}
+use Rattle.language.proofs.typing.Unique.{def-ctx}
 use Rattle.language.proofs.typing.Nesting.{FitsType, FitsTypes, FitsParam, FitsParams, FitsExpr, FitsExprs, FitsArg, FitsArgs, FitsBlock, FitsCmds, FitsDef, FitsStat}
 
 -- more levels fit as well
@@ -227,20 +228,62 @@ after-fits : (d : Def) (n : ℕ) {Γ : Ctx} → n ≤ 63 → CtxFits Γ → Fits
 after-fits (const p (at q x) t e) n le c f = name-fits (value-fits (ty-up (typeOf t) n 64 (omega (arith, le)) (type-fits t n (f .0)))) c
 after-fits (fun p (at q x) t ps e) n le c f = name-fits (fun-fits ps t n le (f .0) (f .1)) c
 after-fits (fun-rec p (at q x) t ps e) n le c f = name-fits (fun-fits ps t n le (f .0) (f .1)) c
+after-fits (fun-block p (at q x) t ps b) n le c f = name-fits (fun-fits ps t n le (f .0) (f .1)) c
+after-fits (fun-rec-block p (at q x) t ps b) n le c f = name-fits (fun-fits ps t n le (f .0) (f .1)) c
 after-fits (var p (at q x) t) n le c f = name-fits (ref-fits (ty-up (typeOf t) n 64 (omega (arith, le)) (type-fits t n f))) c
 after-fits (proc p (at q x) ps b) n le c f = name-fits proc-fits c
 after-fits (proc-rec p (at q x) ps b) n le c f = name-fits proc-fits c
+
+-- what is returned has the type of an expression
+either-fits : {f g h : Flow} → Either f g h → FlowFits f 128 → FlowFits g 128 → FlowFits h 128
+either-fits both-never a b = tt
+either-fits both-always a b = a
+either-fits never-may a b = b
+either-fits never-always a b = b
+either-fits may-never a b = a
+either-fits may-may a b = a
+either-fits may-always a b = a
+either-fits always-never a b = a
+either-fits always-may a b = a
+
+looped-fits : (f : Flow) → FlowFits f 128 → FlowFits (looped f) 128
+looped-fits never h = tt
+looped-fits (may t) h = h
+looped-fits (always t) h = h
+
+mutual
+  block-returns : (b : Block) (n : ℕ) {Γ : Ctx} (f : Flow) → n ≤ 64 → CtxFits Γ → FitsBlock b n → HasB Γ b f → FlowFits f 128
+  block-returns (block p cs) zero f le c k h = absurd k
+  block-returns (block p cs) (suc n) f le c k (BLOC h) = cmds-return cs n f (le-of-suc-le-suc le) c k h
+
+  cmds-return : (cs : Cmds) (n : ℕ) {Γ : Ctx} (f : Flow) → n ≤ 63 → CtxFits Γ → FitsCmds cs n → HasC Γ cs f → FlowFits f 128
+  cmds-return (def-then d cs) n f le c k (DECS h hs) = cmds-return cs n f le (subst (λ Δ. CtxFits Δ) (sym (def-ctx d h)) (after-fits d n le c (k .0))) (k .1) hs
+  cmds-return (stat-then s cs) n f le c k (STATS h hs b) = cmds-return cs n f le c (k .1) hs
+  cmds-return (last s) n f le c k (END h) = stat-returns s n f le c k h
+
+  stat-returns : (s : Stat) (n : ℕ) {Γ : Ctx} (f : Flow) → n ≤ 63 → CtxFits Γ → FitsStat s n → HasS Γ s f → FlowFits f 128
+  stat-returns (echo p e) n f le c k (ECHO h) = tt
+  stat-returns (set p (at q x) e) n f le c k (SET i h) = tt
+  stat-returns (if-stat p e a b) n f le c k (IFS {f = u} {g = v} h ha hb i) =
+      either-fits i (block-returns a n u (omega (arith, le)) c (k .1) ha) (block-returns b n v (omega (arith, le)) c (k .2) hb)
+  stat-returns (while p e b) n f le c k (WHILE {f = u} h hb) = looped-fits u (block-returns b n u (omega (arith, le)) c (k .1) hb)
+  stat-returns (call p (at q x) as′) n f le c k (CALL i h) = tt
+  stat-returns (return p e) n f le c k (RET {t = t} h) = comparable e n le c k t h
+
+a-stat : (s : Stat) (n : ℕ) {Γ : Ctx} → n ≤ 63 → CtxFits Γ → FitsStat s n → AllNodes Comparable (stat-node Γ s ∷ [])
+a-stat s n {Γ} le c f = one-node (stat-node Γ s) (λ g h. stat-returns s n g le c f h)
 
 mutual
   unfolding nodes-cmds
 
   all-block : (b : Block) (n : ℕ) (Γ : Ctx) → n ≤ 64 → CtxFits Γ → FitsBlock b n → AllNodes Comparable (nodes-block Γ b)
   all-block (block p cs) zero Γ le c f = absurd f
-  all-block (block p cs) (suc n) Γ le c f = all-cmds cs n Γ (le-of-suc-le-suc le) c f
+  all-block (block p cs) (suc n) Γ le c f =
+      all-both (all-cmds cs n Γ (le-of-suc-le-suc le) c f) (one-node (block-node Γ (block p cs)) (λ g h. block-returns (block p cs) (suc n) g le c f h))
 
   all-cmds : (cs : Cmds) (n : ℕ) (Γ : Ctx) → n ≤ 63 → CtxFits Γ → FitsCmds cs n → AllNodes Comparable (nodes-cmds Γ cs)
   all-cmds (def-then d cs) n Γ le c f = all-both (all-def d n Γ le c (f .0)) (all-cmds cs n (after-def d Γ) le (after-fits d n le c (f .0)) (f .1))
-  all-cmds (stat-then s cs) n Γ le c f = all-both (all-stat s n Γ le c (f .0)) (all-cmds cs n Γ le c (f .1))
+  all-cmds (stat-then s cs) n Γ le c f = all-both (all-stat s n Γ le c (f .0)) (one-more {n = followed-node Γ s} tt (all-cmds cs n Γ le c (f .1)))
   all-cmds (last s) n Γ le c f = all-stat s n Γ le c f
 
   all-def : (d : Def) (n : ℕ) (Γ : Ctx) → n ≤ 63 → CtxFits Γ → FitsDef d n → AllNodes Comparable (nodes-def Γ d)
@@ -250,6 +293,11 @@ mutual
   all-def (fun-rec p (at q x) t ps e) n Γ le c f = all-both (all-type t) (all-both (all-params (values ps))
       (all-both
       (all-expr e n _ le (name-fits (fun-fits ps t n le (f .0) (f .1)) (params-fit (values ps) n (omega (arith, le)) (f .1) c)) (f .2)) (one-node (def-node Γ (fun-rec p (at q x) t ps e)) tt)))
+  all-def (fun-block p x t ps b) n Γ le c f = all-both (all-type t) (all-both (all-params (values ps))
+      (all-both (all-block b n _ (omega (arith, le)) (params-fit (values ps) n (omega (arith, le)) (f .1) c) (f .2)) (one-node (def-node Γ (fun-block p x t ps b)) tt)))
+  all-def (fun-rec-block p (at q x) t ps b) n Γ le c f = all-both (all-type t) (all-both (all-params (values ps))
+      (all-both
+      (all-block b n _ (omega (arith, le)) (name-fits (fun-fits ps t n le (f .0) (f .1)) (params-fit (values ps) n (omega (arith, le)) (f .1) c)) (f .2)) (one-node (def-node Γ (fun-rec-block p (at q x) t ps b)) tt)))
   all-def (var p x t) n Γ le c f = all-both (all-type t) (one-node (def-node Γ (var p x t)) tt)
   all-def (proc p x ps b) n Γ le c f = all-both (all-params ps)
       (all-both (all-block b n _ (omega (arith, le)) (params-fit ps n (omega (arith, le)) (f .0) c) (f .1)) (one-node (def-node Γ (proc p x ps b)) tt))
@@ -258,12 +306,13 @@ mutual
       (all-block b n _ (omega (arith, le)) (name-fits proc-fits (params-fit ps n (omega (arith, le)) (f .0) c)) (f .1)) (one-node (def-node Γ (proc-rec p (at q x) ps b)) tt))
 
   all-stat : (s : Stat) (n : ℕ) (Γ : Ctx) → n ≤ 63 → CtxFits Γ → FitsStat s n → AllNodes Comparable (nodes-stat Γ s)
-  all-stat (echo p e) n Γ le c f = all-both (all-expr e n Γ le c f) (one-node (stat-node Γ (echo p e)) tt)
-  all-stat (set p x e) n Γ le c f = all-both (all-expr e n Γ le c f) (one-node (stat-node Γ (set p x e)) tt)
+  all-stat (echo p e) n Γ le c f = all-both (all-expr e n Γ le c f) (a-stat (echo p e) n le c f)
+  all-stat (set p x e) n Γ le c f = all-both (all-expr e n Γ le c f) (a-stat (set p x e) n le c f)
   all-stat (if-stat p e a b) n Γ le c f = all-both (all-expr e n Γ le c (f .0))
-      (all-both (all-block a n Γ (omega (arith, le)) c (f .1)) (all-both (all-block b n Γ (omega (arith, le)) c (f .2)) (one-node (stat-node Γ (if-stat p e a b)) tt)))
-  all-stat (while p e b) n Γ le c f = all-both (all-expr e n Γ le c (f .0)) (all-both (all-block b n Γ (omega (arith, le)) c (f .1)) (one-node (stat-node Γ (while p e b)) tt))
-  all-stat (call p x as′) n Γ le c f = all-both (all-args as′ n Γ le c f) (one-node (stat-node Γ (call p x as′)) tt)
+      (all-both (all-block a n Γ (omega (arith, le)) c (f .1)) (all-both (all-block b n Γ (omega (arith, le)) c (f .2)) (a-stat (if-stat p e a b) n le c f)))
+  all-stat (while p e b) n Γ le c f = all-both (all-expr e n Γ le c (f .0)) (all-both (all-block b n Γ (omega (arith, le)) c (f .1)) (a-stat (while p e b) n le c f))
+  all-stat (call p x as′) n Γ le c f = all-both (all-args as′ n Γ le c f) (a-stat (call p x as′) n le c f)
+  all-stat (return p e) n Γ le c f = all-both (all-expr e n Γ le c f) (a-stat (return p e) n le c f)
 
-pub types-fit-128 : (b : Block) → FitsBlock b 64 → AllNodes Comparable (nodes-block [] b)
-types-fit-128 b f = all-block b 64 [] (le-refl 64) no-names f
+pub types-fit-128 : (b : Block) → FitsBlock b 64 → AllNodes Comparable (nodes-prog b)
+types-fit-128 b f = all-both (all-block b 64 [] (le-refl 64) no-names f) (one-node (prog-node b) tt)

@@ -2,7 +2,7 @@
 -- Parameter lists open none. A tree fits n levels when it opens no more than n, one inside another.
 use Prim.Native.Nat.{ℕ}
 use mathlib.Core.List.{List, [], _∷_}
-use Rattle.language.specs.Syntax.{TypeTree, bool, int, arrow, vec, TypeTrees, one-type, more-types, ArgP, val-arg, var-arg, Expr, num, name, if-expr, and, or, app, abs, alloc, nth-expr, len, vset, Exprs, one-expr, more-exprs, ExprP, val, adr, Cmds, last, def-then, stat-then, Def, const, fun, fun-rec, var, proc, proc-rec, Stat, echo, set, if-stat, while, call, Block, block}
+use Rattle.language.specs.Syntax.{TypeTree, bool, int, arrow, vec, TypeTrees, one-type, more-types, ArgP, val-arg, var-arg, Expr, num, name, if-expr, and, or, app, abs, alloc, nth-expr, len, vset, Exprs, one-expr, more-exprs, ExprP, val, adr, Cmds, last, def-then, stat-then, Def, const, fun, fun-rec, fun-block, fun-rec-block, var, proc, proc-rec, Stat, echo, set, if-stat, while, call, return, Block, block}
 use Rattle.language.specs.Types.{values}
 use Rattle.language.specs.Claims.{Opened}
 
@@ -64,6 +64,8 @@ abbrev mutual
   FitsDef (const p x t e) n = FitsType t n × FitsExpr e n
   FitsDef (fun p x t ps e) n = FitsType t n × FitsParams (values ps) n × FitsExpr e n
   FitsDef (fun-rec p x t ps e) n = FitsType t n × FitsParams (values ps) n × FitsExpr e n
+  FitsDef (fun-block p x t ps b) n = FitsType t n × FitsParams (values ps) n × FitsBlock b n
+  FitsDef (fun-rec-block p x t ps b) n = FitsType t n × FitsParams (values ps) n × FitsBlock b n
   FitsDef (var p x t) n = FitsType t n
   FitsDef (proc p x ps b) n = FitsParams ps n × FitsBlock b n
   FitsDef (proc-rec p x ps b) n = FitsParams ps n × FitsBlock b n
@@ -74,3 +76,4 @@ abbrev mutual
   FitsStat (if-stat p e a b) n = FitsExpr e n × FitsBlock a n × FitsBlock b n
   FitsStat (while p e b) n = FitsExpr e n × FitsBlock b n
   FitsStat (call p x as′) n = FitsArgs as′ n
+  FitsStat (return p e) n = FitsExpr e n

@@ -5,9 +5,9 @@ use mathlib.Core.List.{List, [], _∷_}
 use lib.Dec.{T}
 use Rattle.language.specs.Syntax.{Name, at, TypeTree, bool, int, arrow, vec, ArgP, val-arg, var-arg}
 use Rattle.language.specs.Names.{Meaning, literal, operator, free, meaning}
-use Rattle.language.specs.Types.{Base, boolean, integer, Ty, base, fn, vec-of, Tys, tnil, tcons, typeOf, Par, value, ref, param-type}
-use Rattle.language.specs.Typing.{Free, IsBase, IsElement, Formed, Declarable}
-use Rattle.language.proofs.typing.Judge.{andb, same-base, same-type, same-types, same-par, same-pars, is-free, is-base, is-element, declarable}
+use Rattle.language.specs.Types.{Base, boolean, integer, Ty, base, fn, vec-of, Tys, tnil, tcons, typeOf, Par, value, ref, Flow, never, may, always, param-type}
+use Rattle.language.specs.Typing.{Free, IsBase, IsElement, Formed, Declarable, GoesOn}
+use Rattle.language.proofs.typing.Judge.{andb, same-base, same-type, same-types, same-par, same-pars, is-free, is-base, is-element, declarable, is-never, is-always, goes-on}
 
 pub andb-l : (a b : Bool) → T (andb a b) → T a
 andb-l true b h = tt
@@ -85,6 +85,27 @@ same-pars-is (q ∷ qs) (r ∷ rs) h =
 pub same-pars-refl : (q : List Par) → T (same-pars q q)
 same-pars-refl [] = tt
 same-pars-refl (q ∷ qs) = andb-in (same-par q q) (same-pars qs qs) (same-par-refl q) (same-pars-refl qs)
+
+-- tests of how commands return
+pub never-is : (f : Flow) → T (is-never f) → f ≡ never
+never-is never h = refl
+never-is (may t) h = absurd h
+never-is (always t) h = absurd h
+
+pub always-is : (f : Flow) (u : Ty) → T (is-always f u) → f ≡ always u
+always-is never u h = absurd h
+always-is (may t) u h = absurd h
+always-is (always t) u h = ap always (same-type-is t u h)
+
+pub goes-is : (f : Flow) → T (goes-on f) → GoesOn f
+goes-is never h = tt
+goes-is (may t) h = tt
+goes-is (always t) h = absurd h
+
+pub goes-in : (f : Flow) → GoesOn f → T (goes-on f)
+goes-in never h = tt
+goes-in (may t) h = tt
+goes-in (always t) h = absurd h
 
 -- tests of names and parameters
 free-out : (m : Meaning) → T (is-free m) → m ≡ free

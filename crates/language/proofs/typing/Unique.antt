@@ -5,14 +5,14 @@ use mathlib.Core.Bool.{Bool, true, false}
 use mathlib.Core.List.{List, [], _∷_}
 use mathlib.Core.Option.{Option, none, some, Option·none-ne-some}
 use lib.Dec.{T}
-use Rattle.language.specs.Syntax.{Name, at, TypeTree, bool, int, arrow, vec, TypeTrees, one-type, more-types, ArgP, Expr, num, name, if-expr, and, or, app, abs, alloc, nth-expr, len, vset, Exprs, one-expr, more-exprs, ExprP, val, adr, Cmds, last, def-then, stat-then, Def, const, fun, fun-rec, var, proc, proc-rec, Stat, echo, set, if-stat, while, call, Block, block}
+use Rattle.language.specs.Syntax.{Name, at, TypeTree, bool, int, arrow, vec, TypeTrees, one-type, more-types, ArgP, Expr, num, name, if-expr, and, or, app, abs, alloc, nth-expr, len, vset, Exprs, one-expr, more-exprs, ExprP, val, adr, Cmds, last, def-then, stat-then, Def, const, fun, fun-rec, fun-block, fun-rec-block, var, proc, proc-rec, Stat, echo, set, if-stat, while, call, return, Block, block}
 use Rattle.language.specs.Answers.{Result, fine}
 use Rattle.language.specs.Names.{Op, Meaning, literal, operator, free, lookup, meaning, unless-nine, head-operator}
-use Rattle.language.specs.Types.{Ty, base, fn, vec-of, Tys, BOOL, INT, typeOf, Par, ref, Entity, plain, procedure, Ctx, find, values, takes, result}
-use Rattle.language.specs.Typing.{Free, Formed, AllFormed, DeclarableAfter, AllDeclarable, HasE, NUM, LITERAL, IDV, IDR, IF, AND, OR, PRIM, APP, ABS, ALLOC, NTH, LEN, VSET, HasEs, ONE, MORE, HasA, REF, VAL, HasAs, NO-ARGS, ARGS, HasB, BLOC, HasC, DECS, STATS, END, HasD, CONST, FUN, FUNREC, VAR, PROC, PROCREC, HasS, ECHO, SET, IFS, WHILE, CALL}
+use Rattle.language.specs.Types.{Ty, base, fn, vec-of, Tys, BOOL, INT, typeOf, Par, ref, Entity, plain, procedure, Ctx, find, values, Flow, never, always, takes, result}
+use Rattle.language.specs.Typing.{Free, Formed, AllFormed, DeclarableAfter, AllDeclarable, HasE, NUM, LITERAL, IDV, IDR, IF, AND, OR, PRIM, APP, ABS, ALLOC, NTH, LEN, VSET, HasEs, ONE, MORE, HasA, REF, VAL, HasAs, NO-ARGS, ARGS, Either, both-never, both-always, never-may, never-always, may-never, may-may, may-always, always-never, always-may, Before, after-never, after-may, then-always, HasB, BLOC, HasC, DECS, STATS, END, HasD, CONST, FUN, FUNREC, VAR, PROC, PROCREC, HasS, FUNP, FUNRECP, ECHO, SET, IFS, WHILE, CALL, RET}
 use Rattle.language.specs.Order.{after-def}
 use Rattle.language.proofs.typing.Names.{head-typed}
-use Rattle.language.proofs.typing.Judge.{andThen, judged, only, passes, single, andb, same-type, is-free, is-base, read-type, name-type, judge-app, judge-type, judge-types, judge-after, judge-params, judge-expr, judge-exprs, ref-type, call-pars, fits-ref, fits-call, as-ref, judge-arg, judge-args, judge-block, judge-cmds, judge-def, judge-stat}
+use Rattle.language.proofs.typing.Judge.{andThen, judged, only, passes, single, andb, same-type, is-free, is-base, read-type, name-type, judge-app, judge-type, judge-types, judge-after, judge-params, judge-expr, judge-exprs, ref-type, call-pars, fits-ref, fits-call, as-ref, judge-arg, judge-args, is-never, is-always, goes-on, either-flow, sequel, judge-block, judge-cmds, judge-def, judge-stat, judge}
 use Rattle.language.proofs.typing.SameType.{andb-in, same-type-refl, same-types-refl, same-pars-refl, free-in, base-in, element-in, base-formed, param-formed, declarable-in}
 
 -- a result that is there, and is a
@@ -138,10 +138,37 @@ set-in {t = t} e = subst (λ o. T (fits-ref (ref-type o) t)) (sym e) (same-type-
 call-in : {o : Option Entity} {qs : List Par} → o ≡ some (procedure qs) → T (fits-call (call-pars o) qs)
 call-in {qs = qs} e = subst (λ o. T (fits-call (call-pars o) qs)) (sym e) (same-pars-refl qs)
 
-def-ctx : (d : Def) {Γ Δ : Ctx} → HasD Γ d Δ → Δ ≡ after-def d Γ
+is-fine : {A : Type 0} {a : A} {o : Option A} → IsO a o → Is (some a) (fine o)
+is-fine isO = is
+
+-- what goes together
+pub either-in : {f g h : Flow} → Either f g h → IsO h (either-flow f g)
+either-in both-never = isO
+either-in (both-always {t}) = is-only _ (same-type-refl t) isO
+either-in never-may = isO
+either-in never-always = isO
+either-in may-never = isO
+either-in (may-may {t}) = is-only _ (same-type-refl t) isO
+either-in (may-always {t}) = is-only _ (same-type-refl t) isO
+either-in always-never = isO
+either-in (always-may {t}) = is-only _ (same-type-refl t) isO
+
+sequel-in : {f g : Flow} → Before f g → IsO g (sequel f (some g))
+sequel-in after-never = isO
+sequel-in (after-may {t}) = is-only _ (same-type-refl t) isO
+sequel-in (then-always {t}) = is-only _ (same-type-refl t) isO
+
+before-goes : {f g : Flow} → Before f g → T (goes-on f)
+before-goes after-never = tt
+before-goes after-may = tt
+before-goes then-always = tt
+
+pub def-ctx : (d : Def) {Γ Δ : Ctx} → HasD Γ d Δ → Δ ≡ after-def d Γ
 def-ctx (const p (at q x) t e) (CONST f w h) = refl
 def-ctx (fun p (at q x) t ps e) (FUN f w g h) = refl
 def-ctx (fun-rec p (at q x) t ps e) (FUNREC f w g h) = refl
+def-ctx (fun-block p (at q x) t ps b) (FUNP f w g h) = refl
+def-ctx (fun-rec-block p (at q x) t ps b) (FUNRECP f w g h) = refl
 def-ctx (var p (at q x) t) (VAR f i) = refl
 def-ctx (proc p (at q x) ps b) (PROC f g h) = refl
 def-ctx (proc-rec p (at q x) ps b) (PROCREC f g h) = refl
@@ -150,16 +177,25 @@ def-ctx (proc-rec p (at q x) ps b) (PROCREC f g h) = refl
 defines : (p : ℕ) (x : Name) (t : Ty) → Free x → Is tt (passes p (andb (is-free (meaning x)) (same-type t t)))
 defines p x t f = is-pass _ _ (andb-in (is-free (meaning x)) (same-type t t) (free-in x f) (same-type-refl t))
 
+-- a function whose block always returns its type
+defines-block : (p : ℕ) (x : Name) (t : Ty) → Free x → Is tt (passes p (andb (is-free (meaning x)) (is-always (always t) t)))
+defines-block p x t f = is-pass _ _ (andb-in (is-free (meaning x)) (same-type t t) (free-in x f) (same-type-refl t))
+
+-- a procedure whose block never returns
+defines-proc : (p : ℕ) (x : Name) → Free x → Is tt (passes p (andb (is-free (meaning x)) (is-never never)))
+defines-proc p x f = is-pass _ _ (andb-in (is-free (meaning x)) true (free-in x f) tt)
+
 mutual
   unfolding judge-cmds
 
-  pub complete-block : (b : Block) {Γ : Ctx} → HasB Γ b → Is tt (judge-block Γ b)
-  complete-block (block p cs) (BLOC h) = complete-cmds cs h
+  pub complete-block : (b : Block) {Γ : Ctx} {f : Flow} → HasB Γ b f → Is f (judge-block Γ b)
+  complete-block (block p cs) (BLOC h) = is-then _ (complete-cmds cs h) (is-judged _ isO)
 
-  pub complete-cmds : (cs : Cmds) {Γ : Ctx} → HasC Γ cs → Is tt (judge-cmds Γ cs)
-  complete-cmds (def-then d cs) (DECS h hs) = is-then _ (complete-def d h) (complete-cmds cs (subst (λ Δ. HasC Δ cs) (def-ctx d h) hs))
-  complete-cmds (stat-then c cs) (STATS h hs) = is-then _ (complete-stat c h) (complete-cmds cs hs)
-  complete-cmds (last c) (END h) = complete-stat c h
+  pub complete-cmds : (cs : Cmds) {Γ : Ctx} {f : Flow} → HasC Γ cs f → Is (some f) (judge-cmds Γ cs)
+  complete-cmds (def-then d cs) {f = f} (DECS h hs) = is-then _ (complete-def d h) (complete-cmds cs (subst (λ Δ. HasC Δ cs f) (def-ctx d h) hs))
+  complete-cmds (stat-then c cs) (STATS h hs b) =
+      is-then _ (complete-stat c h) (is-then _ (is-pass _ _ (before-goes b)) (is-then _ (complete-cmds cs hs) (is-fine (sequel-in b))))
+  complete-cmds (last c) (END h) = is-then _ (complete-stat c h) is
 
   pub complete-def : (d : Def) {Γ Δ : Ctx} → HasD Γ d Δ → Is tt (judge-def Γ d)
   complete-def (const p (at q x) t e) (CONST f w h) = is-then _ (complete-type t w) (is-then _ (complete-expr e h) (defines p x (typeOf t) f))
@@ -167,15 +203,30 @@ mutual
       is-then _ (complete-type t w) (is-then _ (complete-params (values ps) g) (is-then _ (complete-expr e h) (defines p x (typeOf t) f)))
   complete-def (fun-rec p (at q x) t ps e) (FUNREC f w g h) =
       is-then _ (complete-type t w) (is-then _ (complete-params (values ps) g) (is-then _ (complete-expr e h) (defines p x (typeOf t) f)))
+  complete-def (fun-block p (at q x) t ps b) (FUNP f w g h) =
+      is-then _ (complete-type t w) (is-then _ (complete-params (values ps) g) (is-then _ (complete-block b h) (defines-block p x (typeOf t) f)))
+  complete-def (fun-rec-block p (at q x) t ps b) (FUNRECP f w g h) =
+      is-then _ (complete-type t w) (is-then _ (complete-params (values ps) g) (is-then _ (complete-block b h) (defines-block p x (typeOf t) f)))
   complete-def (var p (at q x) t) (VAR f i) =
       is-then _ (complete-type t (base-formed t i)) (is-pass _ _ (andb-in (is-free (meaning x)) (is-base (typeOf t)) (free-in x f) (base-in (typeOf t) i)))
-  complete-def (proc p (at q x) ps b) (PROC f g h) = is-then _ (complete-params ps g) (is-then _ (complete-block b h) (is-pass _ _ (free-in x f)))
-  complete-def (proc-rec p (at q x) ps b) (PROCREC f g h) = is-then _ (complete-params ps g) (is-then _ (complete-block b h) (is-pass _ _ (free-in x f)))
+  complete-def (proc p (at q x) ps b) (PROC f g h) = is-then _ (complete-params ps g) (is-then _ (complete-block b h) (defines-proc p x f))
+  complete-def (proc-rec p (at q x) ps b) (PROCREC f g h) = is-then _ (complete-params ps g) (is-then _ (complete-block b h) (defines-proc p x f))
 
-  pub complete-stat : (c : Stat) {Γ : Ctx} → HasS Γ c → Is tt (judge-stat Γ c)
-  complete-stat (echo p e) (ECHO h) = is-then _ (complete-expr e h) (is-pass _ _ (same-type-refl INT))
-  complete-stat (set p (at q x) e) (SET f h) = is-then _ (complete-expr e h) (is-pass _ _ (set-in f))
-  complete-stat (if-stat p e a b) (IFS h k l) =
-      is-then _ (complete-expr e h) (is-then _ (complete-block a k) (is-then _ (complete-block b l) (is-pass _ _ (same-type-refl BOOL))))
-  complete-stat (while p e b) (WHILE h k) = is-then _ (complete-expr e h) (is-then _ (complete-block b k) (is-pass _ _ (same-type-refl BOOL)))
-  complete-stat (call p (at q x) as′) (CALL f h) = is-then _ (complete-args as′ h) (is-pass _ _ (call-in f))
+  pub complete-stat : (c : Stat) {Γ : Ctx} {f : Flow} → HasS Γ c f → Is f (judge-stat Γ c)
+  complete-stat (echo p e) (ECHO h) = is-then _ (complete-expr e h) (is-judged _ (is-only _ (same-type-refl INT) isO))
+  complete-stat (set p (at q x) e) (SET f h) = is-then _ (complete-expr e h) (is-judged _ (is-only _ (set-in f) isO))
+  complete-stat (if-stat p e a b) (IFS h k l i) =
+      is-then _ (complete-expr e h) (is-then _ (complete-block a k) (is-then _ (complete-block b l) (is-judged _ (is-only _ (same-type-refl BOOL) (either-in i)))))
+  complete-stat (while p e b) (WHILE h k) = is-then _ (complete-expr e h) (is-then _ (complete-block b k) (is-judged _ (is-only _ (same-type-refl BOOL) isO)))
+  complete-stat (call p (at q x) as′) (CALL f h) = is-then _ (complete-args as′ h) (is-judged _ (is-only _ (call-in f) isO))
+  complete-stat (return p e) (RET h) = is-then _ (complete-expr e h) (is-judged _ isO)
+
+-- commands return in one way
+pub unique-flows : (Γ : Ctx) (b : Block) (f g : Flow) → HasB Γ b f → HasB Γ b g → f ≡ g
+unique-flows Γ b f g h k = is-unique (complete-block b h) (complete-block b k)
+
+pub unique-stat : (c : Stat) {Γ : Ctx} {f g : Flow} → HasS Γ c f → HasS Γ c g → f ≡ g
+unique-stat c h k = is-unique (complete-stat c h) (complete-stat c k)
+
+pub complete-prog : (b : Block) → HasB [] b never → Is tt (judge b)
+complete-prog b h = is-then _ (complete-block b h) (is-pass _ _ tt)
