@@ -1,5 +1,5 @@
 -- Definitions: each is refused exactly where the judge refuses it, and behind it the scope leads to its name.
-use Prim.Native.Nat.{ℕ, zero, suc, _+_, _%_, _<_, _≤_}
+use Prim.Native.Nat.{ℕ, zero, suc, _+_, _-_, _%_, _<_, _≤_}
 use mathlib.Core.Path.{_≡_, refl, ap, sym, _∙_, subst}
 use mathlib.Core.Bool.{Bool, true, false}
 use mathlib.Core.List.{List, _∷_, _++_}
@@ -7,35 +7,36 @@ use native.Mathlib.Omega.{arith}
 use lib.Dec.{eqb, ltb}
 use lib.ListN.{length, getD}
 use borrow.Author.Tests.{ne-eqb}
-use Rattle.language.specs.Claims.{TyFits, AllNodes, Comparable}
+use Rattle.language.specs.Claims.{TyFits, AllNodes, Comparable, FlowFits}
 use Rattle.language.specs.Answers.{fine}
 use Rattle.language.specs.Syntax.{Name, TypeTree, Arg, ArgP, Expr, Block}
-use Rattle.language.specs.Places.{place-expr}
+use Rattle.language.specs.Places.{place-expr, place-block}
 use Rattle.language.specs.Names.{meaning, head-operator}
 use Rattle.language.specs.Words.{nameAt}
-use Rattle.language.specs.Types.{Ty, typeOf, Par, value, ref, Entity, plain, procedure, Ctx, extend, values, pars, declared, arg-types, fun-type}
+use Rattle.language.specs.Types.{Ty, typeOf, Par, value, ref, Entity, plain, procedure, Ctx, extend, values, pars, declared, arg-types, fun-type, Flow, never, may, always}
 use Rattle.language.specs.Typing.{IsBase}
 use Rattle.language.specs.Order.{nodes-expr}
 use Rattle.language.proofs.reading.Standing.{Stands, inArgsP, inExpr}
-use Rattle.language.proofs.typing.Judge.{andThen, passes, andb, same-type, is-free, is-base, judge-params, judge-expr, judge-block, judge-type}
+use Rattle.language.proofs.typing.Judge.{andThen, passes, andb, same-type, is-free, is-base, judge-params, judge-expr, judge-block, judge-type, is-never, is-always, goes-on}
 use Rattle.judge.specs.Names.{nineAt}
 use Rattle.judge.specs.Scopes.{pick, placeAt, childAt, nextAt, roleIn, rowOf, bindsOf, rowAfter, innerAt, outerAt, binderPlace}
-use Rattle.judge.specs.Types.{isFun, partsOf, resultType}
-use Rattle.judge.specs.Rules.{readType, nameRule, refType, isProc, freeRule, lastFrom, defRule, defBy, exprBy, ownBy}
-use Rattle.judge.proofs.Shapes.{Nodes, end, node, kind-type, place-type, kids-type, type-row, params-row, kind-expr, kids-expr, expr-row, place-block, kids-block, block-row}
+use Rattle.judge.specs.Types.{isFun, partsOf, resultType, isDefined, same}
+use Rattle.judge.specs.Rules.{readType, nameRule, refType, isProc, lastFrom, defRule, defBy, exprBy, ownBy, bodyRule, procRule}
+use Rattle.judge.proofs.Shapes.{Nodes, end, node, kind-type, place-type, kids-type, type-row, params-row, kind-expr, kids-expr, expr-row, kids-block, block-row}
 use Rattle.judge.proofs.Scoping.{first, sits-end}
 use Rattle.judge.proofs.Spelling.{Spells, s-fn, same-right, row-in, Row, row-last, row-more, row-parts, Gets}
 use Rattle.judge.proofs.Verdicts.{Run, One, Own, own-fine, Sit, Seat, seat, kids-done, below, kids-then, kids-past, node-one}
 use Rattle.judge.proofs.Looking.{Written, Binder, binds-value, binds-ref, binds-proc, Looks, looks-more, Scope, scope-up, scope-inner, scope-outer, Front}
 use Rattle.judge.proofs.Written.{first-params, params-values, type-one, type-written, here-in, kind-here, last-part, type-binds, own-pass}
-use Rattle.judge.proofs.Parameters.{nine-free, free-rule, cell-rule, type-later, params-take, params-kids}
+use Rattle.judge.proofs.Parameters.{nine-free, cell-rule, type-later, params-take, params-kids}
+use Rattle.judge.proofs.Flows.{Flows, f-always, never-test, goes-test, FlowFit, flow-at}
 use Rattle.judge.proofs.Expressions.{has-at, role-here, env-here, plain-role, listed-role, node-fine, behind′, expr-one}
 
--- a verdict with no more to say
-abbrev pub Fine : Unit {0} → Type 0
-Fine u = Unit {0}
-
 module _ (g : Run) where
+  -- a definition's note
+  abbrev pub Done : ℕ → Unit {0} → Type 0
+  Done n u = getD g.notes n 0 ≡ 65537
+
   -- a name after a key word is not judged
   pub silent-name : {p n m row row′ v : ℕ} {s : Nodes} {Γ : Ctx} (h : Seat g 19 p end s n m row row′ v) → m ≤ g.count → Scope g n v 1 Γ
       → One g (λ (u : Unit {0}). Unit {0}) n (h .mid) (fine tt)
@@ -67,15 +68,50 @@ module _ (g : Run) where
   -- CONST, FUN, FUN REC: the name q is free to be bound and what comes last has the written type
   def-own : {n p : ℕ} (c q y l : ℕ) (x : Name) (t : TypeTree) {τ : Ty} (M : List ℕ) → placeAt g.tree c ≡ q → x ≡ nameAt g.text q → nextAt g.tree c ≡ y
       → lastFrom g.tree (length g.tree) c ≡ l → Written g y (typeOf t) → TyFits τ 128 → Spells g.tree M (suc n) (getD M l 0) τ
-      → Own g (λ (u : Unit {0}). Unit {0}) n p (defRule g.text g.tree M c) (passes p (andb (is-free (meaning x)) (same-type τ (typeOf t))))
+      → Own g (Done n) n p (defRule g.text g.tree M c) (passes p (andb (is-free (meaning x)) (same-type τ (typeOf t))))
   unfolding defRule nineAt
   def-own {n} {p} c q y l x t {τ} M e f h i w k s =
       rw (e, ← f, nine-free (meaning x), h, i, same-right g.tree M (suc n) 128 (getD M l 0) y τ (typeOf t) k s (w M (suc n)))
       (by-tests (is-free (meaning x)) (same-type τ (typeOf t)))
     where
-      by-tests : (a b : Bool) → Own g (λ (u : Unit {0}). Unit {0}) n p (pick a (λ _. pick b (λ _. 65537) λ _. 65536) λ _. 65536) (passes p (andb a b))
-      by-tests true b = own-pass g n p b (λ e. tt)
-      by-tests false b = own-pass g n p false (λ e. tt)
+      by-tests : (a b : Bool) → Own g (Done n) n p (pick a (λ _. pick b (λ _. 65537) λ _. 65536) λ _. 65536) (passes p (andb a b))
+      by-tests true b = own-pass g n p b (λ e i. i)
+      by-tests false b = own-pass g n p false (λ e i. i)
+
+  -- with a block, which always returns the written type, or never returns
+  body-own : {n p : ℕ} (c q y l : ℕ) (x : Name) (t : TypeTree) (φ : Flow) (M : List ℕ) → placeAt g.tree c ≡ q → x ≡ nameAt g.text q → nextAt g.tree c ≡ y
+      → lastFrom g.tree (length g.tree) c ≡ l → Written g y (typeOf t) → FlowFits φ 128 → Flows g M (suc n) (getD M l 0) φ
+      → Own g (Done n) n p (bodyRule g.text g.tree M c) (passes p (andb (is-free (meaning x)) (is-always φ (typeOf t))))
+  unfolding bodyRule nineAt
+  body-own {n} {p} c q y l x t φ M e f h i w k s =
+      rw (e, ← f, nine-free (meaning x), h, i, goes-test g M (suc n) s) (by-tests (is-free (meaning x)) φ k s)
+    where
+      less : (r : ℕ) → 327680 + r - 327680 ≡ r
+      less r = omega arith
+
+      always-own : (b : Bool) → Own g (Done n) n p (pick b (λ _. 65537) λ _. 65536) (passes p b)
+      always-own b = own-pass g n p b (λ e i. i)
+
+      by-tests : (a : Bool) (φ : Flow) → FlowFits φ 128 → Flows g M (suc n) (getD M l 0) φ
+          → Own g (Done n) n p
+          (pick a (λ _. pick (goes-on φ) (λ _. 65536) λ _. pick (same 128 g.tree M (getD M l 0 - 327680) y) (λ _. 65537) λ _. 65536) λ _. 65536)
+          (passes p (andb a (is-always φ (typeOf t))))
+      by-tests false φ k s = always-own false
+      by-tests true never k s = always-own false
+      by-tests true (may τ) k s = always-own false
+      by-tests true (always τ) k (f-always r j s) =
+          rw (j, less r, same-right g.tree M (suc n) 128 r y τ (typeOf t) k s (w M (suc n))) (always-own (same-type τ (typeOf t)))
+
+  proc-own : {n p : ℕ} (c q l : ℕ) (x : Name) (φ : Flow) (M : List ℕ) → placeAt g.tree c ≡ q → x ≡ nameAt g.text q
+      → lastFrom g.tree (length g.tree) c ≡ l → Flows g M (suc n) (getD M l 0) φ
+      → Own g (Done n) n p (procRule g.text g.tree M c) (passes p (andb (is-free (meaning x)) (is-never φ)))
+  unfolding procRule nineAt
+  proc-own {n} {p} c q l x φ M e f i s =
+      rw (e, ← f, nine-free (meaning x), i, never-test g M (suc n) s) (by-tests (is-free (meaning x)) (is-never φ))
+    where
+      by-tests : (a b : Bool) → Own g (Done n) n p (pick a (λ _. pick b (λ _. 65537) λ _. 65536) λ _. 65536) (passes p (andb a b))
+      by-tests true b = own-pass g n p b (λ e i. i)
+      by-tests false b = own-pass g n p false (λ e i. i)
 
   -- a definition's name stands in its first child
   module _ {k p n m row row′ v q : ℕ} {s c : Nodes} (h : Seat g k p (node 19 q end c) s n m row row′ v) where
@@ -111,12 +147,12 @@ module _ (g : Run) where
     type-fine = node-fine g type-seat (behind′ g h l) (omega (arith, below g name-seat))
 
     pub const-binder : k ≡ 2 → Binder g n (plain (value (typeOf t)))
-    unfolding readType refType isProc
+    unfolding readType refType isFun isProc
     const-binder e =
         binds-value {τ = typeOf t} (name-seat .mid) (rw (h .kind, e) type-at) type-fine type-is (rw (h .kind, e)) (rw (h .kind, e))
 
     pub var-binder : k ≡ 5 → IsBase (typeOf t) → Binder g n (plain (ref (typeOf t)))
-    unfolding readType refType isProc
+    unfolding readType refType isFun isProc
     var-binder e b =
         binds-ref {τ = typeOf t} (name-seat .mid) (rw (h .kind, e) type-at) type-fine type-is (rw (h .kind, e) type-at) b (rw (h .kind, e))
 
@@ -132,18 +168,19 @@ module _ (g : Run) where
       (λ b c. last-next j (d .mid) (y .mid) (y .next ∙ e) (below g y) f b c (here-in g y u)) (length g.tree) (omega arith) (here-in g d u)
 
   -- FUN and FUN REC spell their own types
-  module _ (t : TypeTree) (ps : List Arg) (e : Expr) {k p q n m row row′ v : ℕ} {s : Nodes}
-      (h : Seat g k p (node 19 q end (type-row t (params-row (values ps) (expr-row e end)))) s n m row row′ v) (l : m ≤ g.count) (z : 0 < n)
-      (low : ltb k 5 ≡ true)
+  module _ (t : TypeTree) (ps : List Arg) (k₀ p₀ : ℕ) (c₀ : Nodes) {k p q n m row row′ v : ℕ} {s : Nodes}
+      (h : Seat g k p (node 19 q end (type-row t (params-row (values ps) (node k₀ p₀ c₀ end)))) s n m row row′ v) (l : m ≤ g.count) (z : 0 < n)
+      (low : isDefined k ≡ true)
       (fun : isFun k ≡ true) where
     parts-at : partsOf g.tree n ≡ type-seat t h l .mid
     unfolding partsOf
     parts-at =
         rw (h .kind, low) (ap (nextAt g.tree) (type-at t h l)
-        ∙ (type-seat t h l .next ∙ first-params (values ps) (kind-expr e) (place-expr e) (kids-expr e) end (type-seat t h l .mid)))
+        ∙ (type-seat t h l .next ∙ first-params (values ps) k₀ p₀ c₀ end (type-seat t h l .mid)))
 
     no-abs : k ≡ 24 → ⊥
-    no-abs i = let w : ltb 24 5 ≡ true = subst (λ k. ltb k 5 ≡ true) i low in let o : _≡_ {A = ℕ} 0 1 = cc in omega arith
+    unfolding isDefined
+    no-abs i = let w : isDefined 24 ≡ true = subst (λ k. isDefined k ≡ true) i low in let o : _≡_ {A = ℕ} 0 1 = cc in omega arith
 
     fun-gets : (M : List ℕ) (lo j : ℕ) → Gets g.tree M lo n (typeOf t) j
     unfolding resultType
@@ -159,12 +196,12 @@ module _ (g : Run) where
     pub fun-binder : eqb k 2 ≡ false → eqb k 5 ≡ false → eqb k 14 ≡ false → isProc k ≡ false → Binder g n (plain (value (fun-type ps t)))
     unfolding readType refType
     fun-binder a b c d =
-        binds-value {τ = fun-type ps t} n (rw (h .kind, a, b, low)) (node-fine g h l z) fun-written (rw (h .kind, b, c)) (rw (h .kind) d)
+        binds-value {τ = fun-type ps t} n (rw (h .kind, a, b, fun)) (node-fine g h l z) fun-written (rw (h .kind, b, c)) (rw (h .kind) d)
 
   -- PROC and PROC REC
   module _ (ps : List ArgP) (b : Block) {k p q n m row row′ v : ℕ} {s : Nodes}
       (h : Seat g k p (node 19 q end (params-row ps (block-row b end))) s n m row row′ v) (l : m ≤ g.count) where
-    pub proc-binder : eqb k 2 ≡ false → eqb k 5 ≡ false → ltb k 5 ≡ false → ltb k 8 ≡ true → eqb k 14 ≡ false → isProc k ≡ true
+    pub proc-binder : eqb k 2 ≡ false → eqb k 5 ≡ false → isFun k ≡ false → ltb k 8 ≡ true → eqb k 14 ≡ false → isProc k ≡ true
         → Binder g n (procedure (pars ps))
     unfolding readType refType
     proc-binder a c d e f i =
@@ -178,7 +215,7 @@ module _ (g : Run) where
   pub const-one : (p q : ℕ) (x : Name) (t : TypeTree) (e : Expr) {n m row row′ v role : ℕ} {s : Nodes} {Γ : Ctx}
       (h : Seat g 2 p (node 19 q end (type-row t (expr-row e end))) s n m row row′ v) → m ≤ g.count → Scope g n v role Γ → x ≡ nameAt g.text q
       → inExpr e (Stands g.text) → AllNodes Comparable (nodes-expr Γ e)
-      → One g Fine n (h .mid)
+      → One g (Done n) n (h .mid)
       (andThen (judge-type t) λ w. andThen (judge-expr Γ e) λ τ. passes p (andb (is-free (meaning x)) (same-type τ (typeOf t))))
   unfolding ownBy defBy roleIn rowOf bindsOf
   const-one p q x t e {n} h l sc i se qe =
@@ -202,7 +239,7 @@ module _ (g : Run) where
       → ((M : List ℕ) → ownBy k g.text g.tree g.scopes M n ≡ defRule g.text g.tree M (childAt g.tree n))
       → Scope g (suc n) (innerAt g.tree g.scopes n) 1 (fs ++ Γ) → Front g (rowAfter g.tree n row) fs → x ≡ nameAt g.text q → inArgsP (values ps) (Stands g.text)
       → inExpr e (Stands g.text) → AllNodes Comparable (nodes-expr (fs ++ extend (declared (values ps)) Γ) e)
-      → One g Fine n (h .mid) (andThen (judge-type t) λ y. andThen (judge-params (values ps)) λ w. andThen (judge-expr (fs ++ extend (declared (values ps)) Γ) e) λ τ.
+      → One g (Done n) n (h .mid) (andThen (judge-type t) λ y. andThen (judge-params (values ps)) λ w. andThen (judge-expr (fs ++ extend (declared (values ps)) Γ) e) λ τ.
       passes p (andb (is-free (meaning x)) (same-type τ (typeOf t))))
   unfolding bindsOf
   fun-one k p q x t ps e fs Γ {n} h l own sd f i ia se qe =
@@ -228,7 +265,7 @@ module _ (g : Run) where
   pub var-one : (p q : ℕ) (x : Name) (t : TypeTree) {n m row row′ v role : ℕ} {s : Nodes} {Γ : Ctx}
       (h : Seat g 5 p (node 19 q end (type-row t end)) s n m row row′ v)
       → m ≤ g.count → Scope g n v role Γ → x ≡ nameAt g.text q
-      → One g (λ u. andb (is-free (meaning x)) (is-base (typeOf t)) ≡ true) n (h .mid)
+      → One g (λ u. (andb (is-free (meaning x)) (is-base (typeOf t)) ≡ true) × Done n u) n (h .mid)
       (andThen (judge-type t) λ w. passes p (andb (is-free (meaning x)) (is-base (typeOf t))))
   unfolding ownBy defBy roleIn rowOf
   var-one p q x t {n} h l sc i =
@@ -238,23 +275,59 @@ module _ (g : Run) where
       let sd = scope-inner g h {role = 1} refl refl (scope-up g (omega arith) sc) in
       node-one g h l (kids-past g d (omega arith) (silent-name d u sd) (kids-then g y (omega (arith, below g d)) _ (type-one g t y u) (λ wy wr wf.
       (kids-done g (y .rest) (λ M ag.
-      rw (h .child, d .place, d .next, cell-rule g t q (d .mid) (y .kind), ← i) (own-pass g n p (andb (is-free (meaning x)) (is-base (typeOf t))) (λ e. e)))))))
+      rw (h .child, d .place, d .next, cell-rule g t q (d .mid) (y .kind), ← i) (own-pass g n p (andb (is-free (meaning x)) (is-base (typeOf t))) (λ e i. (e, i))))))))
+
+  -- FUN and FUN REC with a block
+  pub body-one : (k p q : ℕ) (x : Name) (t : TypeTree) (ps : List Arg) (b : Block) (fs Γ : Ctx) {n m row row′ v : ℕ} {s : Nodes}
+      (h : Seat g k p (node 19 q end (type-row t (params-row (values ps) (block-row b end)))) s n m row row′ v) → m ≤ g.count
+      → ((M : List ℕ) → ownBy k g.text g.tree g.scopes M n ≡ bodyRule g.text g.tree M (childAt g.tree n))
+      → Scope g (suc n) (innerAt g.tree g.scopes n) 1 (fs ++ Γ) → Front g (rowAfter g.tree n row) fs → x ≡ nameAt g.text q → inArgsP (values ps) (Stands g.text)
+      → ((j ro ro′ w rl : ℕ) (r : Sit g (block-row b end) j (h .mid) ro ro′ w) → 0 < j → Scope g j w rl (fs ++ extend (declared (values ps)) Γ)
+      → One g (FlowFit g j) j (seat g r .mid) (judge-block (fs ++ extend (declared (values ps)) Γ) b))
+      → One g (Done n) n (h .mid) (andThen (judge-type t) λ y. andThen (judge-params (values ps)) λ w.
+      andThen (judge-block (fs ++ extend (declared (values ps)) Γ) b) λ φ. passes p (andb (is-free (meaning x)) (is-always φ (typeOf t))))
+  unfolding bindsOf
+  body-one k p q x t ps b fs Γ {n} h l own sd f i ia body =
+      let d = name-seat t h l in
+      let y = type-seat t h l in
+      let u = behind′ g h l in
+      let zy : 0 < d .mid = omega (arith, below g d) in
+      let zp : 0 < y .mid = omega (arith, below g y) in
+      let fp = subst (λ r. Front g r fs) (sym (type-later g t y ∙ name-later d)) f in
+      node-one g h l (kids-past g d (omega arith) (silent-name d u sd) (kids-then g y zy _ (type-one g t y u) (λ wy wr wf.
+      (params-kids g (values ps) 1 (place-block b) (kids-block b) end fs Γ _ (y .rest) u zp fp ia
+      (scope-outer g y (type-binds t) (scope-outer g d refl sd)) (λ j ro ro′ w rl ys r a sj lj build.
+      let e = seat g r in
+      let zj : 0 < j = omega arith in
+      kids-then g e zj _ (body j ro ro′ w rl r zj sj) (λ φ o k.
+      kids-done g (e .rest) (λ M ag. rw (own M, h .child)
+      (body-own (suc n) q (d .mid) j x t φ M (d .place) i (d .next)
+      (last-two t h l (first-params (values ps) 1 (place-block b) (kids-block b) end (y .mid))
+      (λ c c′. row-final c (build g.notes 0 (λ a. a ≡ j) (last-part g g.notes 0 (λ a. a ≡ j) e u zj refl)) c′))
+      (type-is t h l) (k .1) (flow-at g (suc n) M ag (omega (arith, below g d, below g y)) (k .0))))))))))
 
   -- PROC and PROC REC
   pub proc-one : (k p q : ℕ) (x : Name) (ps : List ArgP) (b : Block) (fs Γ : Ctx) {n m row row′ v : ℕ} {s : Nodes}
       (h : Seat g k p (node 19 q end (params-row ps (block-row b end))) s n m row row′ v) → m ≤ g.count
-      → ((M : List ℕ) → ownBy k g.text g.tree g.scopes M n ≡ freeRule g.text (placeAt g.tree (childAt g.tree n)))
+      → ((M : List ℕ) → ownBy k g.text g.tree g.scopes M n ≡ procRule g.text g.tree M (childAt g.tree n))
       → Scope g (suc n) (innerAt g.tree g.scopes n) 1 (fs ++ Γ) → Front g (rowAfter g.tree n row) fs → x ≡ nameAt g.text q → inArgsP ps (Stands g.text)
       → ((j ro ro′ w rl : ℕ) (r : Sit g (block-row b end) j (h .mid) ro ro′ w) → 0 < j → Scope g j w rl (fs ++ extend (declared ps) Γ)
-      → One g Fine j (seat g r .mid) (judge-block (fs ++ extend (declared ps) Γ) b))
-      → One g Fine n (h .mid) (andThen (judge-params ps) λ w. andThen (judge-block (fs ++ extend (declared ps) Γ) b) λ u. passes p (is-free (meaning x)))
+      → One g (FlowFit g j) j (seat g r .mid) (judge-block (fs ++ extend (declared ps) Γ) b))
+      → One g (Done n) n (h .mid) (andThen (judge-params ps) λ w. andThen (judge-block (fs ++ extend (declared ps) Γ) b) λ φ.
+      passes p (andb (is-free (meaning x)) (is-never φ)))
   unfolding bindsOf
   proc-one k p q x ps b fs Γ {n} h l own sd f i ia body =
       let d = seat g (h .kids) in
       let u = behind′ g h l in
+      let zd : 0 < d .mid = omega (arith, below g d) in
       node-one g h l (kids-past g d (omega arith) (silent-name d u sd)
-      (params-kids g ps 1 (place-block b) (kids-block b) end fs Γ _ (d .rest) u (omega (arith, below g d)) (subst (λ r. Front g r fs) (sym (name-later d)) f) ia
+      (params-kids g ps 1 (place-block b) (kids-block b) end fs Γ _ (d .rest) u zd (subst (λ r. Front g r fs) (sym (name-later d)) f) ia
       (scope-outer g d refl sd) (λ j ro ro′ w rl ys r a sj lj build.
-      let zj : 0 < j = omega (arith, below g d) in
-      kids-then g (seat g r) zj _ (body j ro ro′ w rl r zj sj) (λ v o k.
-      kids-done g (seat g r .rest) (λ M ag. rw (own M, name-place h, free-rule g q, ← i) (own-pass g n p (is-free (meaning x)) (λ e. tt)))))))
+      let e = seat g r in
+      let zj : 0 < j = omega arith in
+      kids-then g e zj _ (body j ro ro′ w rl r zj sj) (λ φ o k.
+      kids-done g (e .rest) (λ M ag. rw (own M, h .child)
+      (proc-own (suc n) q j x φ M (d .place) i
+      (last-next j (suc n) (d .mid) (d .next ∙ first-params ps 1 (place-block b) (kids-block b) end (d .mid)) (below g d)
+      (λ c c′. row-final c (build g.notes 0 (λ a. a ≡ j) (last-part g g.notes 0 (λ a. a ≡ j) e u zj refl)) c′) (length g.tree) (omega arith) (here-in g d u))
+      (flow-at g (suc n) M ag (omega (arith, below g d)) (k .0))))))))

@@ -9,8 +9,8 @@ use Rattle.language.specs.Names.{meaning}
 use Rattle.nodes.specs.Nodes.{nodeAt}
 use Rattle.judge.specs.Names.{sameName, nineAt}
 use Rattle.judge.specs.Scopes.{pick, placeAt, envAt, roleAt, behindAt, roleIn, rowOf, bindsOf, rowAfter, innerAt, shownAt, outerAt, give, scopeStep, scopesFrom, scopesOf, binderPlace, findFrom, namedFrom}
-use Rattle.judge.specs.Types.{noteKind, isFun, partsOf, paramType, resultType, sameParts, same, argFits, fitsFrom, isVec}
-use Rattle.judge.specs.Rules.{hasKind, binderOf, readType, boundRule, nameRule, refType, targetType, ifRule, boolsRule, oneArg, twoArgs, operated, applied, appRule, adrRule, freeRule, isBase, cellRule, singleRule, lastFrom, defRule, partRule, setRule, isProc, called, callRule, defBy, statBy, paramBy, exprBy, ownBy, isElement, hasVec, allocRule, nthRule, lenRule, vsetRule, vecBy}
+use Rattle.judge.specs.Types.{noteKind, isFun, partsOf, paramType, resultType, sameParts, same, argFits, fitsFrom, isVec, isDefined, returned}
+use Rattle.judge.specs.Rules.{hasKind, binderOf, readType, boundRule, nameRule, refType, targetType, ifRule, boolsRule, oneArg, twoArgs, operated, applied, appRule, adrRule, freeRule, isBase, cellRule, singleRule, lastFrom, defRule, partRule, setRule, isProc, called, callRule, defBy, statBy, paramBy, exprBy, ownBy, isElement, hasVec, allocRule, nthRule, lenRule, vsetRule, vecBy, bodyRule, procRule, loopedNote, eitherNote, ifStatRule, whileRule, returnRule, followed, goesWith, flowFrom, programRule, blockRule}
 use Rattle.judge.specs.Judge.{fineFrom, ruled, refuses, noteOf, answer, judgeDown, verdictOf}
 
 abbrev zeros : List ℕ → List ℕ
@@ -22,9 +22,9 @@ found t a = pick (eqb a 0) (λ _. 0) λ _. pick (ltb a 65537) (λ _. placeAt t (
 
 verdict : List ℕ → List ℕ → ℕ
 unfolding found nodeAt sameName nineAt meaning envAt roleAt behindAt roleIn rowOf bindsOf rowAfter innerAt shownAt outerAt give scopeStep scopesFrom scopesOf
-    binderPlace findFrom namedFrom noteKind isFun isVec partsOf paramType resultType sameParts same argFits fitsFrom hasKind binderOf readType boundRule
+    binderPlace findFrom namedFrom noteKind isFun isDefined isVec partsOf paramType resultType sameParts same argFits fitsFrom hasKind binderOf readType boundRule
     nameRule refType targetType ifRule boolsRule oneArg twoArgs operated applied appRule adrRule freeRule isBase cellRule singleRule lastFrom defRule
-    partRule setRule isProc called callRule defBy statBy paramBy exprBy isElement hasVec allocRule nthRule lenRule vsetRule vecBy ownBy fineFrom ruled refuses noteOf answer judgeDown verdictOf
+    partRule setRule isProc called callRule defBy statBy paramBy exprBy isElement hasVec allocRule nthRule lenRule vsetRule vecBy returned bodyRule procRule loopedNote eitherNote ifStatRule whileRule returnRule followed goesWith flowFrom programRule blockRule ownBy fineFrom ruled refuses noteOf answer judgeDown verdictOf
 verdict x t = found t (verdictOf x t (length t) (zeros t) (zeros t))
 
 abbrev nine-bound-tree : List ℕ
@@ -241,3 +241,74 @@ vset-other-tree =
 vset-other : verdict (bytesOf "[CONST b (vec bool) (alloc bool 2); ECHO (len (vset b 0 7))]") vset-other-tree ≡ 47
 unfolding verdict
 vset-other = refl
+
+-- a may before a may before an always
+abbrev returns-tree : List ℕ
+returns-tree =
+    281474976776192 ∷ 9007203549839391 ∷ 5348046032338947 ∷ 4503629692141572 ∷ 3659226237173766 ∷ 4503659756912640 ∷ 281556581548032 ∷
+    2814835666976786 ∷ 6474023249182732 ∷ 5348127636717578 ∷ 5348140521619467 ∷ 5066674134843392 ∷ 281612416516111 ∷ 8725866012868608 ∷
+    5066721379483648 ∷ 281659661352960 ∷ 2251988793360384 ∷ 5348235010899968 ∷ 2814977401618461 ∷ 6474164983824407 ∷ 5348269370638357 ∷
+    5348282255540246 ∷ 5066815868764160 ∷ 281754151157786 ∷ 2252083283165184 ∷ 5066854523469824 ∷ 281792806060032 ∷ 8726046402412544 ∷
+    5066901768110080 ∷ 8726093647183872 ∷ 5066949012750336 ∷ 2252216427610112 ∷ 6474362553171968 ∷ 5348466939133986 ∷ 5067000552357888 ∷ []
+
+returns : verdict (bytesOf "[FUN f int [x:int] [IF (lt x 0) [RETURN 0] [ECHO x]; IF (lt x 5) [ECHO 5] [RETURN 1]; RETURN 2]; ECHO (f 1)]") returns-tree ≡ 0
+unfolding verdict
+returns = refl
+
+-- at the block
+abbrev after-may-tree : List ℕ
+after-may-tree =
+    281474976776192 ∷ 9007203549839377 ∷ 5348046032338947 ∷ 4503629692141572 ∷ 3659226237173766 ∷ 4503659756912640 ∷ 281556581548032 ∷
+    2814835666976783 ∷ 5348123341750281 ∷ 281595236450316 ∷ 8725848832802816 ∷ 5066704199614464 ∷ 281642481287168 ∷ 2251971613294592 ∷
+    5066742854320128 ∷ 2252010268131328 ∷ 5066781509025792 ∷ 2252048922968064 ∷ 5066820163731456 ∷ []
+
+after-may : verdict (bytesOf "[FUN f int [x:int] [IF true [RETURN 1] [ECHO 2]; ECHO 3]; ECHO 1]") after-may-tree ≡ 20
+unfolding verdict
+after-may = refl
+
+-- at the statement, before what follows it
+abbrev stands-last-tree : List ℕ
+stands-last-tree =
+    281474976776192 ∷ 9007203549839377 ∷ 5348046032338947 ∷ 4503629692141572 ∷ 3659226237173766 ∷ 4503659756912640 ∷ 281556581548032 ∷
+    2814835666976783 ∷ 5348123341750281 ∷ 281595236450316 ∷ 8725848832802816 ∷ 5066704199614464 ∷ 281642481287168 ∷ 8725896077639680 ∷
+    5066751444254720 ∷ 2252018858065920 ∷ 5348265075671040 ∷ 2252057512902656 ∷ 5066828753666048 ∷ []
+
+stands-last : verdict (bytesOf "[FUN f int [x:int] [IF true [RETURN 1] [RETURN 2]; ECHO y]; ECHO 1]") stands-last-tree ≡ 21
+unfolding verdict
+stands-last = refl
+
+abbrev two-types-tree : List ℕ
+two-types-tree =
+    281474976776192 ∷ 9007203549839375 ∷ 5348046032338947 ∷ 4503629692141572 ∷ 3659226237173766 ∷ 4503659756912640 ∷ 281556581548032 ∷
+    2814835666976768 ∷ 5348123341750281 ∷ 281595236450316 ∷ 8725848832802816 ∷ 5066704199614464 ∷ 281642481287168 ∷ 8725896077639680 ∷
+    5348226420965376 ∷ 2252036037935104 ∷ 5066807278829568 ∷ []
+
+two-types : verdict (bytesOf "[FUN f int [x:int] [IF true [RETURN 1] [RETURN true]]; ECHO 1]") two-types-tree ≡ 21
+unfolding verdict
+two-types = refl
+
+abbrev may-body-tree : List ℕ
+may-body-tree =
+    281474976776192 ∷ 9288678526550028 ∷ 5348063212208131 ∷ 4503646872010756 ∷ 3659243417042950 ∷ 4503676936781824 ∷ 281573761417216 ∷
+    3096327823556608 ∷ 5348153406521353 ∷ 281625301221376 ∷ 8725878897573888 ∷ 5348209241096192 ∷ 2252005972967424 ∷ 5066777214058496 ∷ []
+
+may-body : verdict (bytesOf "[FUN REC f int [f:int] [WHILE true [RETURN f]]; ECHO 1]") may-body-tree ≡ 2
+unfolding verdict
+may-body = refl
+
+abbrev proc-returns-tree : List ℕ
+proc-returns-tree =
+    281474976776192 ∷ 1688854155362312 ∷ 5348050327306243 ∷ 3659213352206341 ∷ 4503646872010752 ∷ 281543696580608 ∷ 8725797292933120 ∷
+    5348127636717568 ∷ 3377819980201984 ∷ 5348166291423242 ∷ 5066699904647168 ∷ []
+
+proc-returns : verdict (bytesOf "[PROC p [x:int] [RETURN x]; CALL p 1]") proc-returns-tree ≡ 2
+unfolding verdict
+proc-returns = refl
+
+abbrev program-returns-tree : List ℕ
+program-returns-tree =
+    281474976776192 ∷ 8725728573128704 ∷ 5066583940530176 ∷ []
+
+program-returns : verdict (bytesOf "[RETURN 1]") program-returns-tree ≡ 1
+unfolding verdict
+program-returns = refl

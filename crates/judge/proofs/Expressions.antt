@@ -24,7 +24,7 @@ use Rattle.language.proofs.typing.Judged.{View, vfine, view-expr}
 use Rattle.nodes.specs.Names.{meaningNo}
 use Rattle.judge.specs.Names.{nineAt}
 use Rattle.judge.specs.Scopes.{pick, kindAt, placeAt, childAt, nextAt, envAt, roleAt, roleIn, rowOf, bindsOf, rowAfter, findFrom}
-use Rattle.judge.specs.Types.{noteKind, isFun, partsOf, resultType, fitsFrom, isVec}
+use Rattle.judge.specs.Types.{noteKind, isFun, partsOf, resultType, fitsFrom, isVec, isDefined}
 use Rattle.judge.specs.Rules.{hasKind, readType, boundRule, nameRule, ifRule, boolsRule, oneArg, twoArgs, operated, applied, appRule, exprBy, ownBy, hasVec, allocRule, nthRule, lenRule, vsetRule, vecBy}
 use Rattle.judge.proofs.Shapes.{Nodes, end, node, kind-expr, kids-expr, exprs-row, expr-row, kind-type}
 use Rattle.judge.proofs.Scoping.{first}
@@ -64,7 +64,7 @@ module _ {P : JudgedNode → Type 0} where
   all-rest [] h = h
   all-rest (x ∷ l) (one-more h k) = all-rest l k
 
-  all-one : {n : JudgedNode} → AllNodes P (n ∷ []) → P n
+  pub all-one : {n : JudgedNode} → AllNodes P (n ∷ []) → P n
   all-one (one-more h k) = h
 
 -- an expression's own node is its last
@@ -82,7 +82,7 @@ comparable (nth-expr p a b) Γ q = all-one (all-rest (nodes-expr Γ b) (all-rest
 comparable (len p a) Γ q = all-one (all-rest (nodes-expr Γ a) q)
 comparable (vset p a b c) Γ q = all-one (all-rest (nodes-expr Γ c) (all-rest (nodes-expr Γ b) (all-rest (nodes-expr Γ a) q)))
 
-fine-view : {A : Type 0} {P : A → Type 0} {R : List JudgedNode} {a : A} → View P R (fine a) → P a
+pub fine-view : {A : Type 0} {P : A → Type 0} {R : List JudgedNode} {a : A} → View P R (fine a) → P a
 fine-view (vfine p al) = p
 
 -- so its type has at most 128 levels
@@ -399,7 +399,7 @@ module _ (g : Run) where
   -- an abstraction's node spells its type
   abs-spells : {p n m row row′ v : ℕ} {c s : Nodes} (ps : List Arg) (τ : Ty) → Seat g 24 p c s n m row row′ v → m ≤ g.count → childAt g.tree n ≡ suc n
       → Row g.tree g.notes n (Gets g.tree g.notes n n τ) (suc n) (pars (values ps)) → Spells g.tree g.notes n n (fn (arg-types ps) τ)
-  unfolding isFun partsOf
+  unfolding isFun isDefined partsOf
   abs-spells {n = n} ps τ h l e r =
       s-fn {r = n} {ts = arg-types ps} {τ = τ} (rw (kind-here g h l))
       (row-parts g.tree g.notes n (arg-types ps) (rw (h .kind, e) (subst (Row g.tree g.notes n (Gets g.tree g.notes n n τ) (suc n)) (params-values ps) r)))
@@ -459,7 +459,7 @@ module _ (g : Run) where
 
   -- an abstraction's result is what its body's note says
   body-gets : {p n m row row′ v i : ℕ} {c s : Nodes} {τ : Ty} → Seat g 24 p c s n m row row′ v → n ≤ i → Has i τ → Gets g.tree g.notes n n τ i
-  unfolding resultType
+  unfolding isDefined resultType
   body-gets h l t = ((λ e. l), rw (h .kind) (has-low _ l t))
 
   mutual

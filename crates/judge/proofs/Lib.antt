@@ -8,6 +8,7 @@ pub mod Looking
 pub mod Written
 pub mod Parameters
 pub mod Expressions
+pub mod Flows
 pub mod Definitions
 pub mod Statements
 pub mod Programs

@@ -20,7 +20,7 @@ use Rattle.language.proofs.typing.Judge.{andThen, judged, only, passes, single,
 use Rattle.nodes.specs.Names.{meaningNo}
 use Rattle.judge.specs.Names.{nineAt}
 use Rattle.judge.specs.Scopes.{pick, kindAt, rowOf, bindsOf, rowAfter, innerAt}
-use Rattle.judge.specs.Types.{paramType}
+use Rattle.judge.specs.Types.{paramType, isFun}
 use Rattle.judge.specs.Rules.{readType, refType, isProc, isBase, freeRule, cellRule, singleRule, paramBy, ownBy}
 use Rattle.judge.proofs.Shapes.{Nodes, end, node, kind-type, place-type, kids-type, types-row, type-row, kind-param, params-row}
 use Rattle.judge.proofs.Scoping.{sits-end}
@@ -180,7 +180,7 @@ module _ (g : Run) where
   param-binder : (a : ArgP) {n m row row′ v : ℕ} {s : Nodes} → Seat g (kind-param a) (place-param a) (type-row (param-type a) end) s n m row row′ v
       → m ≤ g.count
       → declarable a ≡ true → Binder g n (plain (par a))
-  unfolding readType refType isProc
+  unfolding readType refType isFun isProc
   param-binder (val-arg x t) {n} h l d =
       binds-value {τ = typeOf t} (suc n) (rw (h .kind, h .child)) (type-note (val-arg x t) h l) (spelled (val-arg x t) h l) (rw (h .kind)) (rw (h .kind))
   param-binder (var-arg (at p x) t) {n} h l d =

@@ -31,8 +31,7 @@ use Rattle.judge.proofs.Scoping.{size, size-is, At, laid-at, sits-end, 
 use Rattle.judge.proofs.Noting.{Clean, Answers, none-refused, first-refused, down-noted, down-answers}
 use Rattle.judge.proofs.Verdicts.{Run, Said, said-type, said-double, said-refuses, First, One, one-fine, one-bad, Sit, seat}
 use Rattle.judge.proofs.Looking.{looks-none, Scope}
-use Rattle.judge.proofs.Definitions.{Fine}
-use Rattle.judge.proofs.Programs.{block-one}
+use Rattle.judge.proofs.Programs.{Fine, program-one}
 
 -- What the judge answers of a program: 0 and it has a typing, or the number after that of the node that TYPE is reported at, or 65536 more for DOUBLE.
 pub data Judgement (tree : List ℕ) (b : Block) : ℕ → Type 0 where
@@ -145,7 +144,7 @@ module _ {g : Script} {b : Block} (h : ReadAs g b) (S N : List ℕ) where
     unfolding run
     root-one q l =
         let c = seat run q in
-        subst (λ m. One run Fine 0 m (judge b)) (done (c .rest)) (block-one run b c l no-names (payload h)
+        subst (λ m. One run Fine 0 m (judge b)) (done (c .rest)) (program-one run b c l no-names (payload h)
         (types-fit-128 b (fits-64 b (read-levels (h .reads)))))
       where
         done : {n m row row′ v : ℕ} → Sit run end n m row row′ v → n ≡ m

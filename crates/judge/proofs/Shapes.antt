@@ -2,8 +2,8 @@
 use Prim.Native.Nat.{ℕ}
 use mathlib.Core.Path.{_≡_, refl}
 use mathlib.Core.List.{List, [], _∷_}
-use Rattle.language.specs.Syntax.{Ident, TypeTree, bool, int, arrow, vec, TypeTrees, one-type, more-types, Arg, arg, ArgP, val-arg, var-arg, Expr, num, name, if-expr, and, or, app, abs, alloc, nth-expr, len, vset, Exprs, one-expr, more-exprs, ExprP, val, adr, Cmds, last, def-then, stat-then, Def, const, fun, fun-rec, var, proc, proc-rec, Stat, echo, set, if-stat, while, call, Block, block}
-use Rattle.language.specs.Places.{place-ident, place-expr, place-arg, place-param, place-def, place-stat}
+use Rattle.language.specs.Syntax.{Ident, TypeTree, bool, int, arrow, vec, TypeTrees, one-type, more-types, Arg, arg, ArgP, val-arg, var-arg, Expr, num, name, if-expr, and, or, app, abs, alloc, nth-expr, len, vset, Exprs, one-expr, more-exprs, ExprP, val, adr, Cmds, last, def-then, stat-then, Def, const, fun, fun-rec, fun-block, fun-rec-block, var, proc, proc-rec, Stat, echo, set, if-stat, while, call, return, Block, block}
+use Rattle.language.specs.Places.{place-ident, place-expr, place-arg, place-param, place-def, place-stat, place-block}
 use Rattle.language.specs.Table.{Forest, none, leaf, fork, shapeType, shapeTypes, shapeArg, shapeArgs, shapeArgP, shapeArgsP, shapeExpr, shapeExprs, shapeExprP, shapeExprsP, shapeCmds, shapeDef, shapeStat, shapeBlock}
 use Rattle.language.specs.Types.{values, param-type}
 
@@ -118,6 +118,8 @@ abbrev pub kind-def : Def → ℕ
 kind-def (const p x t e) = 2
 kind-def (fun p x t ps e) = 3
 kind-def (fun-rec p x t ps e) = 4
+kind-def (fun-block p x t ps b) = 32
+kind-def (fun-rec-block p x t ps b) = 33
 kind-def (var p x t) = 5
 kind-def (proc p x ps b) = 6
 kind-def (proc-rec p x ps b) = 7
@@ -128,9 +130,7 @@ kind-stat (set p x e) = 9
 kind-stat (if-stat p e a b) = 10
 kind-stat (while p e b) = 11
 kind-stat (call p x as′) = 12
-
-abbrev pub place-block : Block → ℕ
-place-block (block p cs) = p
+kind-stat (return p e) = 31
 
 abbrev mutual
   pub kids-block : Block → Nodes
@@ -145,6 +145,8 @@ abbrev mutual
   kids-def (const p x t e) = name-row x (type-row t (expr-row e end))
   kids-def (fun p x t ps e) = name-row x (type-row t (params-row (values ps) (expr-row e end)))
   kids-def (fun-rec p x t ps e) = name-row x (type-row t (params-row (values ps) (expr-row e end)))
+  kids-def (fun-block p x t ps b) = name-row x (type-row t (params-row (values ps) (node 1 (place-block b) (kids-block b) end)))
+  kids-def (fun-rec-block p x t ps b) = name-row x (type-row t (params-row (values ps) (node 1 (place-block b) (kids-block b) end)))
   kids-def (var p x t) = name-row x (type-row t end)
   kids-def (proc p x ps b) = name-row x (params-row ps (node 1 (place-block b) (kids-block b) end))
   kids-def (proc-rec p x ps b) = name-row x (params-row ps (node 1 (place-block b) (kids-block b) end))
@@ -155,6 +157,7 @@ abbrev mutual
   kids-stat (if-stat p e a b) = expr-row e (node 1 (place-block a) (kids-block a) (node 1 (place-block b) (kids-block b) end))
   kids-stat (while p e b) = expr-row e (node 1 (place-block b) (kids-block b) end)
   kids-stat (call p x as′) = name-row x (args-row as′ end)
+  kids-stat (return p e) = expr-row e end
 
 abbrev pub block-row : Block → Nodes → Nodes
 block-row b s = node 1 (place-block b) (kids-block b) s
@@ -231,6 +234,8 @@ mutual
   shape-def (const p x t e) s = rw (shape-type t (shapeExpr e none), shape-expr e none)
   shape-def (fun p x t ps e) s = rw (shape-type t (shapeArgs ps (shapeExpr e none)), shape-args ps (shapeExpr e none), shape-expr e none)
   shape-def (fun-rec p x t ps e) s = rw (shape-type t (shapeArgs ps (shapeExpr e none)), shape-args ps (shapeExpr e none), shape-expr e none)
+  shape-def (fun-block p x t ps b) s = rw (shape-type t (shapeArgs ps (shapeBlock b none)), shape-args ps (shapeBlock b none), shape-block b none)
+  shape-def (fun-rec-block p x t ps b) s = rw (shape-type t (shapeArgs ps (shapeBlock b none)), shape-args ps (shapeBlock b none), shape-block b none)
   shape-def (var p x t) s = rw (shape-type t none)
   shape-def (proc p x ps b) s = rw (shape-params ps (shapeBlock b none), shape-block b none)
   shape-def (proc-rec p x ps b) s = rw (shape-params ps (shapeBlock b none), shape-block b none)
@@ -241,3 +246,4 @@ mutual
   shape-stat (if-stat p e a b) s = rw (shape-expr e (shapeBlock a (shapeBlock b none)), shape-block a (shapeBlock b none), shape-block b none)
   shape-stat (while p e b) s = rw (shape-expr e (shapeBlock b none), shape-block b none)
   shape-stat (call p x as′) s = rw (shape-call as′ none)
+  shape-stat (return p e) s = rw (shape-expr e none)

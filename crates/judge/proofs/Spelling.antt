@@ -14,22 +14,25 @@ use Rattle.language.specs.Typing.{IsBase}
 use Rattle.language.proofs.typing.Judge.{andb, same-type, same-types, same-par, same-pars}
 use Rattle.judge.specs.Scopes.{pick, kindAt, childAt, nextAt}
 use Rattle.judge.proofs.Noting.{Agree}
-use Rattle.judge.specs.Types.{noteKind, isFun, partsOf, paramType, resultType, sameParts, same, argFits, fitsFrom, isVec}
+use Rattle.judge.specs.Types.{noteKind, isFun, partsOf, paramType, resultType, sameParts, same, argFits, fitsFrom, isVec, isDefined}
 
 -- the kinds that spell a function's type
-fun-low : (k : ℕ) → isFun k ≡ true → k < 25
+fun-low : (k : ℕ) → isFun k ≡ true → k < 34
 unfolding isFun
-fun-low k = by-tests (eqb k 17) refl (eqb k 24) refl (eqb k 3) refl (eqb k 4) refl
+fun-low k = by-tests (eqb k 17) refl (eqb k 24) refl (eqb k 3) refl (eqb k 4) refl (eqb k 32) refl (eqb k 33) refl
   where
     by-tests : (a : Bool) → eqb k 17 ≡ a → (b : Bool) → eqb k 24 ≡ b → (c : Bool) → eqb k 3 ≡ c → (d : Bool) → eqb k 4 ≡ d
-        → pick a (λ _. true) (λ _. pick b (λ _. true) λ _. pick c (λ _. true) λ _. d) ≡ true → k < 25
-    by-tests true e b f c g d h z = omega (arith, eqb-true k 17 e)
-    by-tests false e true f c g d h z = omega (arith, eqb-true k 24 f)
-    by-tests false e false f true g d h z = omega (arith, eqb-true k 3 g)
-    by-tests false e false f false g true h z = omega (arith, eqb-true k 4 h)
-    by-tests false e false f false g false h z = let o : _≡_ {A = ℕ} 0 1 = cc in absurd (omega arith)
+        → (i : Bool) → eqb k 32 ≡ i → (j : Bool) → eqb k 33 ≡ j
+        → pick a (λ _. true) (λ _. pick b (λ _. true) λ _. pick c (λ _. true) λ _. pick d (λ _. true) λ _. pick i (λ _. true) λ _. j) ≡ true → k < 34
+    by-tests true e b f c g d h i u j v z = omega (arith, eqb-true k 17 e)
+    by-tests false e true f c g d h i u j v z = omega (arith, eqb-true k 24 f)
+    by-tests false e false f true g d h i u j v z = omega (arith, eqb-true k 3 g)
+    by-tests false e false f false g true h i u j v z = omega (arith, eqb-true k 4 h)
+    by-tests false e false f false g false h true u j v z = omega (arith, eqb-true k 32 u)
+    by-tests false e false f false g false h false u true v z = omega (arith, eqb-true k 33 v)
+    by-tests false e false f false g false h false u false v z = let o : _≡_ {A = ℕ} 0 1 = cc in absurd (omega arith)
 
-no-fun : (k : ℕ) → 25 ≤ k → isFun k ≡ false
+no-fun : (k : ℕ) → 34 ≤ k → isFun k ≡ false
 no-fun k h = by-test (isFun k) refl
   where
     by-test : (b : Bool) → isFun k ≡ b → b ≡ false
@@ -97,7 +100,7 @@ module _ (t M : List ℕ) (lo : ℕ) where
           → Parts r y (tcons σ ts) τ
 
   -- what spells a type is of a low kind
-  low-kind : (r : ℕ) (τ : Ty) → Spells r τ → noteKind t r < 28
+  low-kind : (r : ℕ) (τ : Ty) → Spells r τ → noteKind t r < 34
   low-kind r τ (s-bool e) = omega arith
   low-kind r τ (s-int e) = omega arith
   low-kind r τ (s-fn e p) = let w = fun-low (noteKind t r) e in omega arith
@@ -107,10 +110,10 @@ module _ (t M : List ℕ) (lo : ℕ) where
   unfolding noteKind
   above r h = rw (le-ltb r 65536 h)
 
-  pub spells-low : (r : ℕ) (τ : Ty) → Spells r τ → r < 65564
+  pub spells-low : (r : ℕ) (τ : Ty) → Spells r τ → r < 65570
   spells-low r τ s = by-test (ltb r 65536) refl
     where
-      by-test : (b : Bool) → ltb r 65536 ≡ b → r < 65564
+      by-test : (b : Bool) → ltb r 65536 ≡ b → r < 65570
       by-test true e = omega (arith, ltb-true r 65536 e)
       by-test false e = let h = ltb-false r 65536 e in omega (arith, above r h, low-kind r τ s)
 
@@ -323,8 +326,8 @@ module _ (t N M : List ℕ) (lo k : ℕ) (less : k ≤ lo) (agree : Agree lo N M
   result-same r y h = by-test (eqb (kindAt t r) 24) refl
     where
       by-test : (b : Bool) → eqb (kindAt t r) 24 ≡ b
-          → pick (ltb (kindAt t r) 5) (λ _. nextAt t (childAt t r)) (λ _. pick b (λ _. getD N y 0) λ _. y)
-          ≡ pick (ltb (kindAt t r) 5) (λ _. nextAt t (childAt t r)) (λ _. pick b (λ _. getD M y 0) λ _. y)
+          → pick (isDefined (kindAt t r)) (λ _. nextAt t (childAt t r)) (λ _. pick b (λ _. getD N y 0) λ _. y)
+          ≡ pick (isDefined (kindAt t r)) (λ _. nextAt t (childAt t r)) (λ _. pick b (λ _. getD M y 0) λ _. y)
       by-test true e = rw (agree y (h (eqb-true (kindAt t r) 24 e)))
       by-test false e = refl
 

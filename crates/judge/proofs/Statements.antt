@@ -9,17 +9,17 @@ use lib.Dec.{eqb}
 use lib.ListN.{length, getD}
 use borrow.Author.Tests.{ne-eqb, eqb-false}
 use Rattle.language.specs.Claims.{TyFits, AllNodes, Comparable}
-use Rattle.language.specs.Answers.{Result, fine, refuse}
+use Rattle.language.specs.Answers.{Result, fine}
 use Rattle.language.specs.Syntax.{Name, at, Expr, ExprP, val, adr}
 use Rattle.language.specs.Places.{place-expr, place-arg}
 use Rattle.language.specs.Names.{head-operator}
 use Rattle.language.specs.Words.{nameAt}
-use Rattle.language.specs.Types.{Ty, INT, BOOL, Par, value, ref, Entity, plain, procedure, Ctx, find}
+use Rattle.language.specs.Types.{Ty, INT, Par, value, ref, Entity, plain, procedure, Ctx, find, never}
 use Rattle.language.specs.Typing.{IsBase}
 use Rattle.language.specs.Order.{nodes-expr, nodes-arg, nodes-args}
 use Rattle.language.proofs.reading.Standing.{Stands, inExpr, inExprP, inExprsP}
 use Rattle.language.proofs.reading.Payload.{name-stands}
-use Rattle.language.proofs.typing.Judge.{andThen, judged, passes, same-type, same-pars, judge-expr, ref-type, call-pars, fits-ref, fits-call, as-ref, judge-arg, judge-args}
+use Rattle.language.proofs.typing.Judge.{andThen, judged, same-type, same-pars, judge-expr, ref-type, call-pars, fits-ref, fits-call, as-ref, judge-arg, judge-args, only}
 use Rattle.judge.specs.Scopes.{pick, placeAt, childAt, nextAt, envAt, roleIn, rowOf, bindsOf}
 use Rattle.judge.specs.Types.{same}
 use Rattle.judge.specs.Rules.{binderOf, refType, targetType, adrRule, partRule, setRule, called, callRule, statBy, exprBy, ownBy}
@@ -28,14 +28,9 @@ use Rattle.judge.proofs.Scoping.{first}
 use Rattle.judge.proofs.Spelling.{pos-not, Spells, same-right, Gives, gives-value, gives-ref, Args, args-none, args-more, Fitted, fitted, unfitted, fits-right}
 use Rattle.judge.proofs.Verdicts.{Run, said-type, One, one-fine, one-bad, Kids, Own, own-fine, own-bad, Ends, ends, kids-bind, Sit, Seat, seat, kids-done, below, kids-then, kids-past, node-one}
 use Rattle.judge.proofs.Looking.{Written, binds-value, binds-ref, binds-proc, Found, found-none, found, binder-found, Scope, scope-up, scope-inner, scope-outer}
-use Rattle.judge.proofs.Written.{own-pass}
-use Rattle.judge.proofs.Expressions.{expr-binds, all-front, all-rest, has-at, has-low, is-bool, is-int, args-move, env-here, env-low, plain-role, behind′, expr-one}
-use Rattle.judge.proofs.Definitions.{silent-name, name-place, Fine}
-
-pub then-fine : {A : Type 0} (r : Result A) → andThen r fine ≡ r
-unfolding andThen
-then-fine (fine a) = refl
-then-fine (refuse c p) = refl
+use Rattle.judge.proofs.Flows.{standing, HasFlow, Gave, gave-pass, followed-one}
+use Rattle.judge.proofs.Expressions.{expr-binds, all-front, all-rest, has-at, has-low, is-int, args-move, env-here, env-low, plain-role, behind′, expr-one}
+use Rattle.judge.proofs.Definitions.{silent-name, name-place}
 
 -- what an argument is
 pub arg-binds : (a : ExprP) → bindsOf (kind-arg a) ≡ 0
@@ -130,19 +125,19 @@ module _ (g : Run) where
 
   pub call-one : (p q : ℕ) (x : Name) (as′ : List ExprP) {n m row row′ v role : ℕ} {s : Nodes} {Γ : Ctx}
       (h : Seat g 12 p (node 19 q end (args-row as′ end)) s n m row row′ v)
-      → m ≤ g.count → Scope g n v role Γ → x ≡ nameAt g.text q → inExprsP as′ (Stands g.text) → AllNodes Comparable (nodes-args Γ as′)
-      → One g Fine n (h .mid) (andThen (judge-args Γ as′) λ ps. passes p (fits-call (call-pars (find Γ x)) ps))
+      → m ≤ g.count → (b : Bool) → eqb (nextAt g.tree n) 0 ≡ b → Scope g n v role Γ → x ≡ nameAt g.text q → inExprsP as′ (Stands g.text) → AllNodes Comparable (nodes-args Γ as′)
+      → One g (HasFlow g n) n (h .mid) (standing b p (andThen (judge-args Γ as′) λ ps. judged p (only (fits-call (call-pars (find Γ x)) ps) (some never))))
   unfolding ownBy statBy callRule roleIn rowOf bindsOf
-  call-one p q x as′ {n} {Γ = Γ} h l sc i s c =
+  call-one p q x as′ {n} {Γ = Γ} h l b e sc i s c =
       let d = seat g (h .kids) in
       let u = behind′ g h l in
       let sd = scope-inner g h {role = 1} refl refl (scope-up g (omega arith) sc) in
-      node-one g h l (kids-past g d (omega arith) (silent-name g d u sd)
-      (kids-bind g (λ ps. passes p (fits-call (call-pars (find Γ x)) ps))
+      followed-one g h l b e (λ M. callRule g.text g.tree g.scopes M n) (λ M. refl) (kids-past g d (omega arith) (silent-name g d u sd)
+      (kids-bind g (λ ps. judged p (only (fits-call (call-pars (find Γ x)) ps) (some never)))
       (args-kids as′ (suc n) (d .rest) u (omega (arith, below g d)) (omega (arith, below g d)) (scope-outer g d refl sd) s c)
       (λ ps r a M ag.
       let w = subst (λ j. Args g.tree M (suc n) j ps) (sym (ap (nextAt g.tree) (h .child) ∙ d .next)) (args-move g (suc n) M ag a) in
-      rw (call-is M (suc n) (find Γ x) ps (target-found h l sc i) w) (own-pass g n p (fits-call (call-pars (find Γ x)) ps) (λ e. tt)))))
+      rw (call-is M (suc n) (find Γ x) ps (target-found h l sc i) w) (gave-pass g M (fits-call (call-pars (find Γ x)) ps)))))
 
   -- SET
   set-is : {r : ℕ} (M : List ℕ) (lo y : ℕ) (τ : Ty) (o : Option Ty) → Target o r → TyFits τ 128 → Spells g.tree M lo (getD M y 0) τ
@@ -152,31 +147,27 @@ module _ (g : Run) where
       rw (ne-eqb r 0 (λ e. eqb-false (r % 65536) 0 f (rw e)), same-right g.tree M lo 128 (getD M y 0) r τ σ k s (w M lo))
 
   pub set-one : (p q : ℕ) (x : Name) (e : Expr) {n m row row′ v role : ℕ} {s : Nodes} {Γ : Ctx}
-      (h : Seat g 9 p (node 19 q end (node (kind-expr e) (place-expr e) (kids-expr e) end)) s n m row row′ v) → m ≤ g.count → Scope g n v role Γ
+      (h : Seat g 9 p (node 19 q end (node (kind-expr e) (place-expr e) (kids-expr e) end)) s n m row row′ v) → m ≤ g.count → (f : Bool)
+      → eqb (nextAt g.tree n) 0 ≡ f → Scope g n v role Γ
       → x ≡ nameAt g.text q
       → inExpr e (Stands g.text) → AllNodes Comparable (nodes-expr Γ e)
-      → One g Fine n (h .mid) (andThen (judge-expr Γ e) λ τ. passes p (fits-ref (ref-type (find Γ x)) τ))
+      → One g (HasFlow g n) n (h .mid) (standing f p (andThen (judge-expr Γ e) λ τ. judged p (only (fits-ref (ref-type (find Γ x)) τ) (some never))))
   unfolding ownBy statBy setRule roleIn rowOf bindsOf
-  set-one p q x e {n} {Γ = Γ} h l sc i s c =
+  set-one p q x e {n} {Γ = Γ} h l f j sc i s c =
       let d = seat g (h .kids) in
       let b = seat g (d .rest) in
       let u = behind′ g h l in
       let sd = scope-inner g h {role = 1} refl refl (scope-up g (omega arith) sc) in
       let z : 0 < d .mid = omega (arith, below g d) in
-      node-one g h l (kids-past g d (omega arith) (silent-name g d u sd)
+      followed-one g h l f j (λ M. setRule g.text g.tree g.scopes M n) (λ M. refl) (kids-past g d (omega arith) (silent-name g d u sd)
       (kids-then g b z _ (expr-one g e b u z (scope-outer g d refl sd) (plain-role g (head-operator e)) s c) (λ τ r t.
       kids-done g (b .rest) (λ M ag.
       let w : nextAt g.tree (childAt g.tree n) ≡ d .mid = ap (nextAt g.tree) (h .child) ∙ d .next in
       rw (w, set-is M (suc n) (d .mid) τ (ref-type (find Γ x)) (target-is h l sc i) (t .1) (has-at g (suc n) M ag (omega (arith, below g d)) (t .0)))
-      (own-pass g n p (fits-ref (ref-type (find Γ x)) τ) (λ e. tt))))))
+      (gave-pass g M (fits-ref (ref-type (find Γ x)) τ))))))
 
-  -- ECHO, IF and WHILE
-  pub bool-part : {n p : ℕ} (M : List ℕ) (y : ℕ) (τ : Ty) → Spells g.tree M (suc n) (getD M y 0) τ
-      → Own g Fine n p (partRule g.tree M 15 y) (passes p (same-type τ BOOL))
-  unfolding partRule
-  bool-part {n} {p} M y τ s = rw (is-bool g M (suc n) y τ s) (own-pass g n p (same-type τ BOOL) (λ e. tt))
-
+  -- ECHO
   pub int-part : {n p : ℕ} (M : List ℕ) (y : ℕ) (τ : Ty) → Spells g.tree M (suc n) (getD M y 0) τ
-      → Own g Fine n p (partRule g.tree M 16 y) (passes p (same-type τ INT))
+      → Gave g M n p (partRule g.tree M 16 y) (judged p (only (same-type τ INT) (some never)))
   unfolding partRule
-  int-part {n} {p} M y τ s = rw (is-int g M (suc n) y τ s) (own-pass g n p (same-type τ INT) (λ e. tt))
+  int-part {n} M y τ s = rw (is-int g M (suc n) y τ s) (gave-pass g M (same-type τ INT))

@@ -5,14 +5,14 @@ use mathlib.Core.Bool.{Bool, true, false}
 use mathlib.Core.List.{List, [], _∷_}
 use native.Mathlib.Omega.{arith}
 use lib.Dec.{eqb}
-use lib.ListN.{length}
+use lib.ListN.{length, getD}
 use borrow.Author.Tests.{lt-ltb}
 use Rattle.language.specs.Answers.{fine, Result, refuse}
 use Rattle.language.specs.Syntax.{TypeTree, bool, int, arrow, vec, TypeTrees, one-type, more-types, Arg, arg, ArgP}
 use Rattle.language.specs.Types.{typeOf, typesOf, Par, value, values, pars, arg-types}
 use Rattle.language.proofs.typing.Judge.{andThen, judged, only, passes, is-element, judge-type, judge-types}
 use Rattle.judge.specs.Scopes.{kindAt, nextAt, pick, bindsOf}
-use Rattle.judge.specs.Types.{noteKind, isFun, partsOf, paramType, resultType, isVec}
+use Rattle.judge.specs.Types.{noteKind, isFun, partsOf, paramType, resultType, isVec, isDefined}
 use Rattle.judge.specs.Rules.{paramBy, ownBy, isElement, vecBy}
 use Rattle.judge.proofs.Shapes.{Nodes, end, node, kind-type, place-type, kids-type, types-row, type-row, params-row}
 use Rattle.judge.proofs.Scoping.{first}
@@ -63,9 +63,9 @@ then-assoc (fine a) s o = refl
 then-assoc (refuse c p) s o = refl
 
 -- a node that only has to pass a test
-pub own-pass : (g : Run) {P : Unit {0} → Type 0} (n p : ℕ) (b : Bool) → (b ≡ true → P tt) → Own g P n p (pick b (λ _. 65537) λ _. 65536) (passes p b)
+pub own-pass : (g : Run) {P : Unit {0} → Type 0} (n p : ℕ) (b : Bool) → (b ≡ true → getD g.notes n 0 ≡ 65537 → P tt) → Own g P n p (pick b (λ _. 65537) λ _. 65536) (passes p b)
 unfolding passes judged only
-own-pass g n p true f = own-fine refl (λ e. f refl)
+own-pass g n p true f = own-fine refl (λ e. f refl e)
 own-pass g n p false f = own-bad said-type
 
 pub params-values : (ps : List Arg) → pars (values ps) ≡ valuesOf (arg-types ps)
@@ -94,7 +94,7 @@ module _ (g : Run) where
         let w = behind g h in
         let d = seat g (h .kids) in
         node-one g h l (kids-then g d (omega arith) (λ u. passes p (is-element (typeOf t))) (type-one t d (omega arith)) (λ u e f.
-        kids-done g (d .rest) (λ M a. rw (h .child, d .kind, element-kind t) (own-pass g n p (is-element (typeOf t)) (λ e. tt)))))
+        kids-done g (d .rest) (λ M a. rw (h .child, d .kind, element-kind t) (own-pass g n p (is-element (typeOf t)) (λ e i. tt)))))
 
     types-kids : (ts : TypeTrees) (s : Nodes) {n hi row row′ v : ℕ} {o : Result (Unit {0})} → Sit g (types-row ts s) n hi row row′ v → 0 < n → hi ≤ g.count
         → ((i ro ro′ w : ℕ) → Sit g s i hi ro ro′ w → 0 < i → Kids g (Ends g (λ (u : Unit {0}). Unit {0})) s i hi o)
@@ -141,7 +141,7 @@ module _ (g : Run) where
   not-24 e = omega arith
 
   mutual
-    unfolding partsOf resultType isFun isVec paramType
+    unfolding partsOf resultType isFun isDefined isVec paramType
 
     pub type-written : (t : TypeTree) {n m row row′ v : ℕ} {s : Nodes} → Seat g (kind-type t) (place-type t) (kids-type t) s n m row row′ v → m ≤ g.count
         → 0 < n

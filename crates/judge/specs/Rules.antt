@@ -1,13 +1,13 @@
 -- Each node's own rule, over the notes N of what ended before it: its note, or 65536 where the rule is not met (131072: a doubled parameter).
 -- x is the text, t the tree table, S the scopes.
-use Prim.Native.Nat.{ℕ, zero, suc, _+_}
+use Prim.Native.Nat.{ℕ, zero, suc, _+_, _-_, _%_}
 use mathlib.Core.Bool.{Bool, true, false}
 use mathlib.Core.List.{List}
 use lib.Dec.{eqb, ltb}
 use lib.ListN.{length, getD}
 use Rattle.judge.specs.Names.{nineAt}
 use Rattle.judge.specs.Scopes.{pick, kindAt, placeAt, childAt, nextAt, envAt, roleAt, behindAt, findFrom, namedFrom}
-use Rattle.judge.specs.Types.{noteKind, isFun, partsOf, resultType, same, fitsFrom, isVec}
+use Rattle.judge.specs.Types.{noteKind, isFun, partsOf, resultType, same, fitsFrom, isVec, returned}
 
 -- this note if the test holds, else refused
 abbrev pub passes : Bool → ℕ → ℕ
@@ -28,7 +28,7 @@ unfoldable pub readType : List ℕ → ℕ → ℕ
 readType t b =
     pick (eqb (kindAt t b) 2) (λ _. nextAt t (childAt t b)) λ _.
     pick (eqb (kindAt t b) 5) (λ _. nextAt t (childAt t b)) λ _.
-    pick (ltb (kindAt t b) 5) (λ _. b) λ _.
+    pick (isFun (kindAt t b)) (λ _. b) λ _.
     pick (ltb (kindAt t b) 8) (λ _. 65536) λ _. childAt t b
 
 -- a name that may be bound
@@ -152,16 +152,29 @@ unfoldable pub lastFrom : List ℕ → ℕ → ℕ → ℕ
 lastFrom t zero y = y
 lastFrom t (suc n) y = pick (eqb (nextAt t y) 0) (λ _. y) λ _. lastFrom t n (nextAt t y)
 
--- CONST, FUN, FUN REC: the name c is free to be bound, and what comes last has the written type
+-- CONST, FUN, FUN REC with an expression: the name c is free to be bound, and what comes last has the written type
 unfoldable pub defRule : List ℕ → List ℕ → List ℕ → ℕ → ℕ
 defRule x t N c =
     pick (eqb (nineAt x (placeAt t c)) 0)
     (λ _. passes (same 128 t N (getD N (lastFrom t (length t) c) 0) (nextAt t c)) 65537)
     λ _. 65536
 
+-- FUN, FUN REC with a block: the block always returns the written type
+unfoldable pub bodyRule : List ℕ → List ℕ → List ℕ → ℕ → ℕ
+bodyRule x t N c =
+    pick (eqb (nineAt x (placeAt t c)) 0)
+    (λ _. pick (ltb (getD N (lastFrom t (length t) c) 0) 327680) (λ _. 65536) λ _.
+    passes (same 128 t N (getD N (lastFrom t (length t) c) 0 - 327680) (nextAt t c)) 65537)
+    λ _. 65536
+
+-- PROC, PROC REC: the block never returns
+unfoldable pub procRule : List ℕ → List ℕ → List ℕ → ℕ → ℕ
+procRule x t N c =
+    pick (eqb (nineAt x (placeAt t c)) 0) (λ _. passes (ltb (getD N (lastFrom t (length t) c) 0) 196608) 65537) λ _. 65536
+
 -- STATEMENTS
 
--- ECHO, IF, WHILE: the first part has a type of kind k
+-- ECHO: the first part has a type of kind k
 unfoldable pub partRule : List ℕ → List ℕ → ℕ → ℕ → ℕ
 partRule t N k y = passes (hasKind t N k y) 65537
 
@@ -185,21 +198,68 @@ called t N b z =
 unfoldable pub callRule : List ℕ → List ℕ → List ℕ → List ℕ → ℕ → ℕ
 callRule x t S N i = called t N (binderOf x t S (envAt S i) (placeAt t (childAt t i))) (nextAt t (childAt t i))
 
+-- what may be returned where f is: WHILE, and IF where the other block never returns
+unfoldable pub loopedNote : ℕ → ℕ
+loopedNote f = pick (ltb f 327680) (λ _. f) λ _. f - 131072
+
+-- IF, with blocks that return as f and h say
+unfoldable pub eitherNote : List ℕ → List ℕ → ℕ → ℕ → ℕ
+eitherNote t N f h =
+    pick (ltb f 196608) (λ _. loopedNote h) λ _.
+    pick (ltb h 196608) (λ _. loopedNote f) λ _.
+    passes (same 128 t N (returned f) (returned h)) (pick (ltb f 327680) (λ _. f) λ _. pick (ltb h 327680) (λ _. loopedNote f) λ _. f)
+
+-- IF and WHILE, with c the condition
+unfoldable pub ifStatRule : List ℕ → List ℕ → ℕ → ℕ
+ifStatRule t N c = pick (hasKind t N 15 c) (λ _. eitherNote t N (getD N (nextAt t c) 0) (getD N (nextAt t (nextAt t c)) 0)) λ _. 65536
+
+unfoldable pub whileRule : List ℕ → List ℕ → ℕ → ℕ
+whileRule t N c = pick (hasKind t N 15 c) (λ _. loopedNote (getD N (nextAt t c) 0)) λ _. 65536
+
+-- RETURN: always what the expression y has, whose note is below 131072
+unfoldable pub returnRule : List ℕ → ℕ → ℕ
+returnRule N y = 327680 + getD N y 0 % 131072
+
+-- the statement i, whose own rule gives r: what always returns stands last
+unfoldable pub followed : List ℕ → ℕ → ℕ → ℕ
+followed t i r = pick (eqb (nextAt t i) 0) (λ _. r) λ _. pick (ltb r 327680) (λ _. r) λ _. 65536
+
+-- BLOCKS
+
+-- what may be returned so far (0: nothing) goes with what f says behind it
+unfoldable pub goesWith : List ℕ → List ℕ → ℕ → ℕ → Bool
+goesWith t N s f = pick (eqb s 0) (λ _. true) λ _. pick (ltb f 196608) (λ _. false) λ _. same 128 t N (returned f) (returned s)
+
+-- n commands from y on, where s may be returned before them
+unfoldable pub flowFrom : List ℕ → List ℕ → ℕ → ℕ → ℕ → ℕ
+flowFrom t N zero s y = 65536
+flowFrom t N (suc n) s y =
+    pick (eqb (nextAt t y) 0) (λ _. passes (goesWith t N s (getD N y 0)) (getD N y 0)) λ _.
+    pick (ltb (getD N y 0) 196608) (λ _. flowFrom t N n s (nextAt t y)) λ _.
+    pick (goesWith t N s (getD N y 0)) (λ _. flowFrom t N n (getD N y 0) (nextAt t y)) λ _. 65536
+
+-- the root never returns
+unfoldable pub programRule : ℕ → ℕ → ℕ
+programRule i r = pick (eqb i 0) (λ _. passes (ltb r 196608) r) λ _. r
+
+unfoldable pub blockRule : List ℕ → List ℕ → ℕ → ℕ
+blockRule t N i = programRule i (flowFrom t N (length t) 0 (childAt t i))
+
 -- BY KIND
 
--- a block, a definition
+-- a definition
 unfoldable pub defBy : ℕ → List ℕ → List ℕ → List ℕ → ℕ → ℕ
 defBy k x t N i =
-    pick (ltb k 2) (λ _. 65537) λ _.
     pick (ltb k 5) (λ _. defRule x t N (childAt t i)) λ _.
-    pick (eqb k 5) (λ _. cellRule x t (placeAt t (childAt t i)) (nextAt t (childAt t i))) λ _. freeRule x (placeAt t (childAt t i))
+    pick (eqb k 5) (λ _. cellRule x t (placeAt t (childAt t i)) (nextAt t (childAt t i))) λ _. procRule x t N (childAt t i)
 
 -- a statement
 unfoldable pub statBy : ℕ → List ℕ → List ℕ → List ℕ → List ℕ → ℕ → ℕ
 statBy k x t S N i =
     pick (eqb k 8) (λ _. partRule t N 16 (childAt t i)) λ _.
     pick (eqb k 9) (λ _. setRule x t S N i) λ _.
-    pick (eqb k 12) (λ _. callRule x t S N i) λ _. partRule t N 15 (childAt t i)
+    pick (eqb k 12) (λ _. callRule x t S N i) λ _.
+    pick (eqb k 10) (λ _. ifStatRule t N (childAt t i)) λ _. whileRule t N (childAt t i)
 
 -- a parameter, a var parameter, a type
 unfoldable pub paramBy : ℕ → List ℕ → List ℕ → List ℕ → ℕ → ℕ
@@ -228,7 +288,10 @@ vecBy k t N i =
 -- the own rule of the node i of kind k
 unfoldable pub ownBy : ℕ → List ℕ → List ℕ → List ℕ → List ℕ → ℕ → ℕ
 ownBy k x t S N i =
+    pick (ltb k 2) (λ _. blockRule t N i) λ _.
     pick (ltb k 8) (λ _. defBy k x t N i) λ _.
-    pick (ltb k 13) (λ _. statBy k x t S N i) λ _.
+    pick (ltb k 13) (λ _. followed t i (statBy k x t S N i)) λ _.
     pick (ltb k 18) (λ _. paramBy k x t S i) λ _.
-    pick (ltb k 26) (λ _. exprBy k x t S N i) λ _. vecBy k t N i
+    pick (ltb k 26) (λ _. exprBy k x t S N i) λ _.
+    pick (ltb k 31) (λ _. vecBy k t N i) λ _.
+    pick (eqb k 31) (λ _. followed t i (returnRule N (childAt t i))) λ _. bodyRule x t N (childAt t i)

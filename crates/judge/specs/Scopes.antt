@@ -43,19 +43,20 @@ unfoldable pub roleIn : ℕ → ℕ
 roleIn k =
     pick (ltb k 2) (λ _. 0) λ _. pick (ltb k 8) (λ _. 1) λ _.
     pick (eqb k 9) (λ _. 1) λ _. pick (eqb k 12) (λ _. 1) λ _. pick (eqb k 25) (λ _. 1) λ _.
-    pick (eqb k 23) (λ _. 2) λ _. 0
+    pick (eqb k 23) (λ _. 2) λ _. pick (ltb 31 k) (λ _. 1) λ _. 0
 
 -- 1: a REC definition; 2: another node with parameters; 0: none of them
 unfoldable pub rowOf : ℕ → ℕ
 rowOf k =
     pick (eqb k 4) (λ _. 1) λ _. pick (eqb k 7) (λ _. 1) λ _.
-    pick (eqb k 3) (λ _. 2) λ _. pick (eqb k 6) (λ _. 2) λ _. pick (eqb k 24) (λ _. 2) λ _. 0
+    pick (eqb k 3) (λ _. 2) λ _. pick (eqb k 6) (λ _. 2) λ _. pick (eqb k 24) (λ _. 2) λ _.
+    pick (eqb k 33) (λ _. 1) λ _. pick (eqb k 32) (λ _. 2) λ _. 0
 
 -- 1: a definition; 2: a parameter; 0: no binder
 unfoldable pub bindsOf : ℕ → ℕ
 bindsOf k =
     pick (ltb k 2) (λ _. 0) λ _. pick (ltb k 8) (λ _. 1) λ _.
-    pick (eqb k 13) (λ _. 2) λ _. pick (eqb k 14) (λ _. 2) λ _. 0
+    pick (eqb k 13) (λ _. 2) λ _. pick (eqb k 14) (λ _. 2) λ _. pick (ltb 31 k) (λ _. 1) λ _. 0
 
 -- the REC definition whose parameters come next, or 0: between a definition and its last parameter stand only names, types and parameters
 unfoldable pub rowAfter : List ℕ → ℕ → ℕ → ℕ

@@ -1,6 +1,7 @@
 -- Types over the tree table t and the notes N. A note is 65536 + k for a type or an outcome of kind k (65551 bool, 65552 int, 65537 fine, 65555 an operator
--- as a head), the node that spells a type (a type, FUN, FUN REC, an abstraction or an alloc), or 131072 more than such a node for a reference;
+-- as a head), the node that spells a type (a type, FUN, FUN REC in either form, an abstraction or an alloc), or 131072 more than such a node for a reference;
 -- 65536 says that the node's own rule is not met, 131072 that it is a parameter named like one before it, and 0 that a node below is refused.
+-- A statement or a block that never returns has the note 65537, one that may return a type 196608 more than the type's, and one that always does 327680 more.
 -- All spellings of a function's type have one shape: a row of siblings, of which all but the last are parameters and the last is or has the result.
 -- A block's type is spelled by a vec or an alloc: what it is of is the first child.
 use Prim.Native.Nat.{ℕ, zero, suc, _-_}
@@ -16,7 +17,13 @@ noteKind t r = pick (ltb r 65536) (λ _. kindAt t r) λ _. r - 65536
 
 -- does a node of this kind spell a function's type?
 unfoldable pub isFun : ℕ → Bool
-isFun k = pick (eqb k 17) (λ _. true) λ _. pick (eqb k 24) (λ _. true) λ _. pick (eqb k 3) (λ _. true) λ _. eqb k 4
+isFun k =
+    pick (eqb k 17) (λ _. true) λ _. pick (eqb k 24) (λ _. true) λ _. pick (eqb k 3) (λ _. true) λ _. pick (eqb k 4) (λ _. true) λ _.
+    pick (eqb k 32) (λ _. true) λ _. eqb k 33
+
+-- if so, is it a definition, with a name and a type before the parameters?
+unfoldable pub isDefined : ℕ → Bool
+isDefined k = pick (ltb k 5) (λ _. true) λ _. ltb 31 k
 
 -- does a node of this kind spell a block's type?
 unfoldable pub isVec : ℕ → Bool
@@ -24,7 +31,7 @@ isVec k = pick (eqb k 26) (λ _. true) λ _. eqb k 27
 
 -- the first part: parameters, then the result or the body, each but the last with a sibling
 unfoldable pub partsOf : List ℕ → ℕ → ℕ
-partsOf t r = pick (ltb (kindAt t r) 5) (λ _. nextAt t (nextAt t (childAt t r))) λ _. childAt t r
+partsOf t r = pick (isDefined (kindAt t r)) (λ _. nextAt t (nextAt t (childAt t r))) λ _. childAt t r
 
 -- the type of the part y, a parameter or a type
 unfoldable pub paramType : List ℕ → ℕ → ℕ
@@ -33,7 +40,7 @@ paramType t y = pick (eqb (kindAt t y) 13) (λ _. childAt t y) λ _. y
 -- the result's type of r, whose last part is y
 unfoldable pub resultType : List ℕ → List ℕ → ℕ → ℕ → ℕ
 resultType t N r y =
-    pick (ltb (kindAt t r) 5) (λ _. nextAt t (childAt t r)) λ _.
+    pick (isDefined (kindAt t r)) (λ _. nextAt t (childAt t r)) λ _.
     pick (eqb (kindAt t r) 24) (λ _. getD N y 0) λ _. y
 
 -- the two rows of parts of a and b agree by f from y and z on, part by part
@@ -69,3 +76,7 @@ fitsFrom t N (suc n) y z =
     pick (eqb (nextAt t y) 0) (λ _. pick (eqb z 0) (λ _. y) λ _. 0) λ _.
     pick (eqb z 0) (λ _. 0) λ _.
     pick (argFits t N y z) (λ _. fitsFrom t N n (nextAt t y) (nextAt t z)) λ _. 0
+
+-- the type that a note of a statement or a block says to be returned
+unfoldable pub returned : ℕ → ℕ
+returned f = pick (ltb f 327680) (λ _. f - 196608) λ _. f - 327680

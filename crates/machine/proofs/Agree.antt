@@ -14,7 +14,7 @@ use mir.Val.{toZ, sel}
 use Rattle.language.specs.Answers.{LimitStop, ErrorStop, Stop, limit, error, stop-number}
 use Rattle.language.specs.Numbers.{as-bit}
 use Rattle.language.specs.Rules as Rules
-use Rattle.language.specs.Rules.{Val, Env, State, no-rule, Outcome, ok, halt, bind, need, otherwise, within, branch, as-number, as-truth, as-address, as-block}
+use Rattle.language.specs.Rules.{Val, Env, State, Returned, no-rule, Outcome, ok, halt, bind, unless-returned, need, otherwise, within, branch, as-number, as-truth, as-address, as-block}
 use Rattle.machine.specs.declared.Cell.{Cell}
 use Rattle.machine.specs.declared.Ending.{Ending}
 use Rattle.machine.specs.declared.Ending.the-variants.{NoRule}
@@ -23,7 +23,7 @@ use Rattle.machine.specs.Entries.{pick, number-tag, address-tag, block-t
 use Rattle.machine.specs.State.{Tables, Ret, is, andThen}
 use Rattle.machine.specs.Machine.{onBit}
 use Rattle.machine.proofs.Lists.{Asks, asks-yes, asks-no}
-use Rattle.machine.proofs.Relation.{Stage, Kept, Thing, Old, Rep, v-num, v-fun, v-rec, v-proc, v-proc-rec, v-adr, v-block, e-none, e-bound, ValR, EnvR, CellR, c-unset, c-set, Waits, w-none, w-more, R, Grow, Plain, plain-limit, Sim, goes, stops, unset, no-way, Spent, Made, Some, Waiting}
+use Rattle.machine.proofs.Relation.{Stage, Kept, Thing, Old, Rep, v-num, v-fun, v-rec, v-proc, v-proc-rec, v-adr, v-block, e-none, e-bound, ValR, EnvR, CellR, c-unset, c-set, Waits, w-none, w-more, R, Grow, Plain, plain-limit, Sims, Sim, goes, returns, stops, unset, no-way, IsBack, Spent, Made, Some, Waiting}
 use Rattle.machine.proofs.Steps.{more}
 
 pub bind-ok : {A B : Type 0} (a : A) (s : State) (k : A → State → Outcome B) → bind (ok a s) k ≡ k a s
@@ -97,83 +97,91 @@ module _ {g : Stage} where
   pub some-sim : {A : Type 0} {P : List A → (t x : ℕ) → Tables → Type 0} {sp : ℕ} {m : Tables} {o : Outcome (List A)} {r : Ret} →
       Sim g (Some g P) sp m o r → Sim g P sp m o r
   some-sim (goes p s h) = goes (p .it) s h
+  some-sim (returns b s h) = absurd b
   some-sim (stops w s) = stops w s
   some-sim (unset s) = unset s
   some-sim (no-way s) = no-way s
 
-  module _ {A : Type 0} {P : A → (t x : ℕ) → Tables → Type 0} where
-    pub sim-lift : {sp : ℕ} {m m₁ : Tables} {o : Outcome A} {r : Ret} → Grow g sp m m₁ → Sim g P sp m₁ o r → Sim g P sp m o r
+  module _ {A : Type 0} {P B : A → (t x : ℕ) → Tables → Type 0} where
+    pub sim-lift : {sp : ℕ} {m m₁ : Tables} {o : Outcome A} {r : Ret} → Grow g sp m m₁ → Sims g P B sp m₁ o r → Sims g P B sp m o r
     sim-lift a (goes p s h) = goes p s (grow-trans a h)
+    sim-lift a (returns p s h) = returns p s (grow-trans a h)
     sim-lift a (stops w s) = stops w s
     sim-lift a (unset s) = unset s
     sim-lift a (no-way s) = no-way s
 
     -- an answer that took a unit is an answer; one from a state with fewer units took one
-    pub relax : {sp : ℕ} {m : Tables} {o : Outcome A} {r : Ret} → Sim g (Spent g m P) sp m o r → Sim g P sp m o r
+    pub relax : {sp : ℕ} {m : Tables} {o : Outcome A} {r : Ret} → Sims g (Spent g m P) B sp m o r → Sims g P B sp m o r
     relax (goes p s h) = goes (p .it) s h
+    relax (returns p s h) = returns p s h
     relax (stops w s) = stops w s
     relax (unset s) = unset s
     relax (no-way s) = no-way s
 
-    pub tighten : {sp : ℕ} {m m₁ : Tables} {o : Outcome A} {r : Ret} → m₁ .counts .units < m .counts .units → Grow g sp m m₁ → Sim g P sp m₁ o r →
-        Sim g (Spent g m P) sp m o r
+    pub tighten : {sp : ℕ} {m m₁ : Tables} {o : Outcome A} {r : Ret} → m₁ .counts .units < m .counts .units → Grow g sp m m₁ → Sims g P B sp m₁ o r →
+        Sims g (Spent g m P) B sp m o r
     tighten l a (goes p s h) = goes (record { it = p; less = omega (arith, h .fell) }) s (grow-trans a h)
+    tighten l a (returns p s h) = returns p s (grow-trans a h)
     tighten l a (stops w s) = stops w s
     tighten l a (unset s) = unset s
     tighten l a (no-way s) = no-way s
 
     -- an answer from a state with n bindings more made them
-    pub making : (n : ℕ) {sp : ℕ} {m m₁ : Tables} {o : Outcome A} {r : Ret} → n + m .counts .bindings ≤ m₁ .counts .bindings → Sim g P sp m₁ o r →
-        Sim g (Made g n m P) sp m₁ o r
+    pub making : (n : ℕ) {sp : ℕ} {m m₁ : Tables} {o : Outcome A} {r : Ret} → n + m .counts .bindings ≤ m₁ .counts .bindings → Sims g P B sp m₁ o r →
+        Sims g (Made g n m P) (Made g n m B) sp m₁ o r
     making n l (goes p s h) = goes (record { it = p; made = le-trans l (h .more) }) s h
+    making n l (returns p s h) = returns (record { it = p; made = le-trans l (h .more) }) s h
     making n l (stops w s) = stops w s
     making n l (unset s) = unset s
     making n l (no-way s) = no-way s
 
     -- a test of the machine alone
-    pub sim-yes : (b : Bool) {sp : ℕ} {m : Tables} {o : Outcome A} {r : Ret} (k : Unit {0} → Ret) → T b → Sim g P sp m o r → Sim g P sp m o (pick b (λ _. r) k)
+    pub sim-yes : (b : Bool) {sp : ℕ} {m : Tables} {o : Outcome A} {r : Ret} (k : Unit {0} → Ret) → T b → Sims g P B sp m o r → Sims g P B sp m o (pick b (λ _. r) k)
     unfolding pick
     sim-yes true k h i = i
     sim-yes false k h i = absurd h
 
-    pub sim-no : (b : Bool) {sp : ℕ} {m : Tables} {o : Outcome A} {r : Ret} (k : Unit {0} → Ret) → (T b → ⊥) → Sim g P sp m o r →
-        Sim g P sp m o (pick b k (λ _. r))
+    pub sim-no : (b : Bool) {sp : ℕ} {m : Tables} {o : Outcome A} {r : Ret} (k : Unit {0} → Ret) → (T b → ⊥) → Sims g P B sp m o r →
+        Sims g P B sp m o (pick b k (λ _. r))
     unfolding pick
     sim-no true k h i = absurd (h tt)
     sim-no false k h i = i
 
-    pub sim-if : (b : Bool) {sp : ℕ} {m : Tables} {o : Outcome A} {r r′ : Ret} → (T b → Sim g P sp m o r) → ((T b → ⊥) → Sim g P sp m o r′) →
-        Sim g P sp m o (pick b (λ _. r) λ _. r′)
+    pub sim-if : (b : Bool) {sp : ℕ} {m : Tables} {o : Outcome A} {r r′ : Ret} → (T b → Sims g P B sp m o r) → ((T b → ⊥) → Sims g P B sp m o r′) →
+        Sims g P B sp m o (pick b (λ _. r) λ _. r′)
     unfolding pick
     sim-if true h k = h tt
     sim-if false h k = k (λ f. f)
 
     -- a limit is tested
     pub sim-within : (b b′ : Bool) (l : LimitStop) (p : ℕ) {s : State} {sp : ℕ} {m : Tables} {o : Outcome A} {r : Ret} → (T b → T b′) × (T b′ → T b) → R g s m →
-        (T b → Sim g P sp m o r) → Sim g P sp m (within b l p s o) (pick b′ (λ _. r) (λ _. is (E.Stop (stop-number (limit l)) p) m))
+        (T b → Sims g P B sp m o r) → Sims g P B sp m (within b l p s o) (pick b′ (λ _. r) (λ _. is (E.Stop (stop-number (limit l)) p) m))
     unfolding within pick
     sim-within true true l p f s h = h tt
     sim-within true false l p f s h = absurd (f .0 tt)
     sim-within false true l p f s h = absurd (f .1 tt)
     sim-within false false l p f s h = stops (plain-limit l) s
 
-  module _ {A B : Type 0} {P : A → (t x : ℕ) → Tables → Type 0} {Q : B → (t x : ℕ) → Tables → Type 0} where
+  module _ {A B : Type 0} {P : A → (t x : ℕ) → Tables → Type 0} {Q C : B → (t x : ℕ) → Tables → Type 0} where
     -- one part, and then the rest
     pub sim-bind : {sp : ℕ} {m : Tables} {o : Outcome A} {r : Ret} {k : A → State → Outcome B} {k′ : ℕ → ℕ → Tables → Ret} → Sim g P sp m o r →
-        ((a : A) (s : State) (t x : ℕ) (m₁ : Tables) → P a t x m₁ → R g s m₁ → Grow g sp m m₁ → Sim g Q sp m₁ (k a s) (k′ t x m₁)) →
-        Sim g Q sp m (bind o k) (andThen r k′)
+        ((a : A) (s : State) (t x : ℕ) (m₁ : Tables) → P a t x m₁ → R g s m₁ → Grow g sp m m₁ → Sims g Q C sp m₁ (k a s) (k′ t x m₁)) →
+        Sims g Q C sp m (bind o k) (andThen r k′)
     unfolding bind andThen
     sim-bind (goes p s a) f = sim-lift a (f _ _ _ _ _ p s a)
+    sim-bind (returns b s a) f = absurd b
     sim-bind (stops w s) f = stops w s
     sim-bind (unset s) f = unset s
     sim-bind (no-way s) f = no-way s
 
+  module _ {A B : Type 0} {P : A → (t x : ℕ) → Tables → Type 0} {Q : B → (t x : ℕ) → Tables → Type 0} where
     -- one of some arguments, and then the others, whatever waits below
     pub sim-each : {sp : ℕ} {m : Tables} {o : Outcome A} {r : Ret} {k : A → State → Outcome B} {k′ : ℕ → ℕ → Tables → Ret} → Sim g P sp m o r →
         ((a : A) (s : State) (t x : ℕ) (m₁ : Tables) → P a t x m₁ → R g s m₁ → Grow g sp m m₁ → Sim g Q 0 m₁ (k a s) (k′ t x m₁)) →
         Sim g Q 0 m (bind o k) (andThen r k′)
     unfolding bind andThen
     sim-each (goes p s a) f = sim-lift (grow-low a) (f _ _ _ _ _ p s a)
+    sim-each (returns b s a) f = absurd b
     sim-each (stops w s) f = stops w s
     sim-each (unset s) f = unset s
     sim-each (no-way s) f = no-way s
@@ -183,6 +191,7 @@ module _ {g : Stage} where
         ((a : A) (s : State) (t x : ℕ) (m₁ : Tables) → P a t x m₁ → k a s ≡ halt no-rule p s) → Sim g Q sp m (bind o k) (andThen r λ _ _ m₁. is NoRule m₁)
     unfolding bind andThen
     sim-stuck (goes p s a) q f = rw (f _ _ _ _ _ p) (no-way s)
+    sim-stuck (returns b s a) q f = absurd b
     sim-stuck (stops w s) q f = stops w s
     sim-stuck (unset s) q f = unset s
     sim-stuck (no-way s) q f = no-way s
@@ -192,21 +201,28 @@ module _ {g : Stage} where
         ((a : A) (t x : ℕ) (m₁ : Tables) → P a t x m₁ → Grow g sp m m₁ → Q (f a) t x m₁) → Sim g Q sp m (bind o (λ a s. ok (f a) s)) r
     unfolding bind
     sim-map h (goes p s a) f = goes (f _ _ _ _ p a) s a
+    sim-map h (returns b s a) f = absurd b
     sim-map h (stops w s) f = stops w s
     sim-map h (unset s) f = unset s
     sim-map h (no-way s) f = no-way s
 
+  -- a call's bindings pay for what waited
+  paid : {sp t x : ℕ} {us : List Val} {m m₁ m₂ : Tables} → Waiting g m sp 0 us t x m₁ → Grow g 0 m m₁ → Grow g sp m₁ m₂ →
+      length us + m₁ .counts .bindings ≤ m₂ .counts .bindings → Grow g sp m m₂
+  paid w a h made =
+      record {
+        more = le-trans (a .more) (h .more);
+        old = λ k l. h .old k (le-trans l (a .more)) ∙ a .old k l;
+        waits = λ k l b. h .waits k l (omega (arith, a .more, b)) ∙ w .keeps k l (omega (arith, made, b));
+        fell = le-trans (h .fell) (a .fell);
+      }
+
   -- arguments, and then what makes a binding of each
-  module _ {B : Type 0} {Q : B → (t x : ℕ) → Tables → Type 0} where
+  module _ {B : Type 0} {Q C : B → (t x : ℕ) → Tables → Type 0} where
     called : {sp t x : ℕ} {us : List Val} {m m₁ : Tables} {o : Outcome B} {r : Ret} → Waiting g m sp 0 us t x m₁ → Grow g 0 m m₁ →
-        Sim g (Made g (length us) m₁ Q) sp m₁ o r → Sim g Q sp m o r
-    called w a (goes p s h) =
-        goes (p .it) s (record {
-          more = le-trans (a .more) (h .more);
-          old = λ k l. h .old k (le-trans l (a .more)) ∙ a .old k l;
-          waits = λ k l b. h .waits k l (omega (arith, a .more, b)) ∙ w .keeps k l (omega (arith, p .made, b));
-          fell = le-trans (h .fell) (a .fell);
-        })
+        Sims g (Made g (length us) m₁ Q) (Made g (length us) m₁ C) sp m₁ o r → Sims g Q C sp m o r
+    called w a (goes p s h) = goes (p .it) s (paid w a h (p .made))
+    called w a (returns p s h) = returns (p .it) s (paid w a h (p .made))
     called w a (stops v s) = stops v s
     called w a (unset s) = unset s
     called w a (no-way s) = no-way s
@@ -214,54 +230,71 @@ module _ {g : Stage} where
     pub sim-call : {sp : ℕ} {m : Tables} {o : Outcome (List Val)} {r : Ret} {k : List Val → State → Outcome B} {k′ : ℕ → ℕ → Tables → Ret} →
         Sim g (Waiting g m sp 0) 0 m o r →
         ((us : List Val) (s : State) (t x : ℕ) (m₁ : Tables) → Waiting g m sp 0 us t x m₁ → R g s m₁ → Grow g 0 m m₁ →
-        Sim g (Made g (length us) m₁ Q) sp m₁ (k us s) (k′ t x m₁)) → Sim g Q sp m (bind o k) (andThen r k′)
+        Sims g (Made g (length us) m₁ Q) (Made g (length us) m₁ C) sp m₁ (k us s) (k′ t x m₁)) → Sims g Q C sp m (bind o k) (andThen r k′)
     unfolding bind andThen
     sim-call (goes w s a) f = called w a (f _ _ _ _ _ w s a)
+    sim-call (returns b s a) f = absurd b
     sim-call (stops w s) f = stops w s
     sim-call (unset s) f = unset s
     sim-call (no-way s) f = no-way s
 
   -- parts of the rules that the machine has in one
-  module _ {A B : Type 0} {Q : B → (t x : ℕ) → Tables → Type 0} {sp : ℕ} {m : Tables} {r : Ret} where
-    pub sim-ok : (a : A) (s : State) (k : A → State → Outcome B) → Sim g Q sp m (k a s) r → Sim g Q sp m (bind (ok a s) k) r
+  module _ {A B : Type 0} {Q C : B → (t x : ℕ) → Tables → Type 0} {sp : ℕ} {m : Tables} {r : Ret} where
+    pub sim-ok : (a : A) (s : State) (k : A → State → Outcome B) → Sims g Q C sp m (k a s) r → Sims g Q C sp m (bind (ok a s) k) r
     unfolding bind
     sim-ok a s k h = h
 
-    pub sim-after : {C : Type 0} (o : Outcome C) (f : C → State → Outcome A) (k : A → State → Outcome B) → Sim g Q sp m (bind o λ a s. bind (f a s) k) r →
-        Sim g Q sp m (bind (bind o f) k) r
+    pub sim-after : {D : Type 0} (o : Outcome D) (f : D → State → Outcome A) (k : A → State → Outcome B) → Sims g Q C sp m (bind o λ a s. bind (f a s) k) r →
+        Sims g Q C sp m (bind (bind o f) k) r
     unfolding bind
     sim-after (ok a s) f k h = h
     sim-after (halt w p s) f k h = h
 
-  module _ {A : Type 0} {P : A → (t x : ℕ) → Tables → Type 0} {Q : A → (t x : ℕ) → Tables → Type 0} where
-    -- the machine changes the answer, the rules do not
-    pub sim-end : {sp : ℕ} {m : Tables} {o : Outcome A} {r : Ret} {k : ℕ → ℕ → Tables → Ret} → Sim g P sp m o r →
-        ((a : A) (s : State) (t x : ℕ) (m₁ : Tables) → P a t x m₁ → R g s m₁ → Grow g sp m m₁ → Sim g Q sp m₁ (ok a s) (k t x m₁)) →
-        Sim g Q sp m o (andThen r k)
+  module _ {A : Type 0} {P Q B : A → (t x : ℕ) → Tables → Type 0} where
+    -- the machine changes the answer, the rules do not; what is returned is passed on
+    pub sim-end : {sp : ℕ} {m : Tables} {o : Outcome A} {r : Ret} {k : ℕ → ℕ → Tables → Ret} → Sims g P B sp m o r →
+        ((a : A) (s : State) (t x : ℕ) (m₁ : Tables) → P a t x m₁ → R g s m₁ → Grow g sp m m₁ → Sims g Q B sp m₁ (ok a s) (k t x m₁)) →
+        Sims g Q B sp m o (andThen r k)
     unfolding andThen
     sim-end (goes p s a) f = sim-lift a (f _ _ _ _ _ p s a)
+    sim-end (returns b s a) f = returns b s a
     sim-end (stops w s) f = stops w s
     sim-end (unset s) f = unset s
     sim-end (no-way s) f = no-way s
 
-  module _ {A B : Type 0} {P : B → (t x : ℕ) → Tables → Type 0} {Q : A → Type 0} where
+  -- commands, and then others, which a RETURN passes over
+  module _ {P Q : Returned → (t x : ℕ) → Tables → Type 0} where
+    pub sim-unless : {sp : ℕ} {m : Tables} {o : Outcome Returned} {r : Ret} {k : State → Outcome Returned} {k′ : ℕ → ℕ → Tables → Ret} →
+        ((v : Val) (t x : ℕ) (m₁ : Tables) → P (some v) t x m₁ → ⊥) → Sims g P (IsBack g) sp m o r →
+        ((s : State) (t x : ℕ) (m₁ : Tables) → P none t x m₁ → R g s m₁ → Grow g sp m m₁ → Sims g Q (IsBack g) sp m₁ (k s) (k′ t x m₁)) →
+        Sims g Q (IsBack g) sp m (unless-returned o k) (andThen r k′)
+    unfolding unless-returned andThen
+    sim-unless n (goes {a = none} p s a) f = sim-lift a (f _ _ _ _ p s a)
+    sim-unless n (goes {a = some v} p s a) f = absurd (n v _ _ _ p)
+    sim-unless n (returns {a = none} b s a) f = absurd b
+    sim-unless n (returns {a = some v} b s a) f = returns b s a
+    sim-unless n (stops w s) f = stops w s
+    sim-unless n (unset s) f = unset s
+    sim-unless n (no-way s) f = no-way s
+
+  module _ {A B : Type 0} {P C : B → (t x : ℕ) → Tables → Type 0} {Q : A → Type 0} where
     -- a form is asked for
     pub sim-need : {o : Option A} {b : Bool} (p : ℕ) {s : State} {sp : ℕ} {m : Tables} {k : A → Outcome B} {r : Ret} → Asks Q o b → R g s m →
-        ((a : A) → Q a → Sim g P sp m (k a) r) → Sim g P sp m (need o p s k) (pick b (λ _. r) (λ _. is NoRule m))
+        ((a : A) → Q a → Sims g P C sp m (k a) r) → Sims g P C sp m (need o p s k) (pick b (λ _. r) (λ _. is NoRule m))
     unfolding need pick
     sim-need p (asks-yes q) s f = f _ q
     sim-need p asks-no s f = no-way s
 
     -- the same where the machine only answers
     pub end-need : {o : Option A} {b : Bool} (p : ℕ) {s : State} {sp : ℕ} {m : Tables} {k : A → Outcome B} {e : Ending} → Asks Q o b → R g s m →
-        ((a : A) → Q a → Sim g P sp m (k a) (is e m)) → Sim g P sp m (need o p s k) (is (pick b (λ _. e) (λ _. NoRule)) m)
+        ((a : A) → Q a → Sims g P C sp m (k a) (is e m)) → Sims g P C sp m (need o p s k) (is (pick b (λ _. e) (λ _. NoRule)) m)
     unfolding need pick
     end-need p (asks-yes q) s f = f _ q
     end-need p asks-no s f = no-way s
 
     -- what a script must see to
     pub sim-otherwise : {o : Option A} {b : Bool} {x : ErrorStop} → Plain (error x) → (p : ℕ) {s : State} {sp : ℕ} {m : Tables} {k : A → Outcome B} {r : Ret} → Asks Q o b → R g s m →
-        ((a : A) → Q a → Sim g P sp m (k a) r) → Sim g P sp m (otherwise o x p s k) (pick b (λ _. r) (λ _. is (E.Stop (stop-number (error x)) p) m))
+        ((a : A) → Q a → Sims g P C sp m (k a) r) → Sims g P C sp m (otherwise o x p s k) (pick b (λ _. r) (λ _. is (E.Stop (stop-number (error x)) p) m))
     unfolding otherwise pick
     sim-otherwise w p (asks-yes q) s f = f _ q
     sim-otherwise w p asks-no s f = stops w s
@@ -300,9 +333,9 @@ pub no-bit : (b : Bool) (n k : ℕ) → as-bit (sel b (pos (suc (suc n))) (negsu
 no-bit true n k = refl
 no-bit false n k = refl
 
-module _ {g : Stage} {B : Type 0} {P : B → (t x : ℕ) → Tables → Type 0} where
-  word-bit : (x p : ℕ) {s : State} {sp : ℕ} {m : Tables} {a b : Outcome B} {r₁ r₀ : Ret} → R g s m → Sim g P sp m a r₁ → Sim g P sp m b r₀ →
-      Sim g P sp m (need (as-bit (toZ w64 x)) p s λ t. branch t a b) (pick (eqb x 0) (λ _. r₀) λ _. pick (eqb x 1) (λ _. r₁) λ _. is NoRule m)
+module _ {g : Stage} {B : Type 0} {P C : B → (t x : ℕ) → Tables → Type 0} where
+  word-bit : (x p : ℕ) {s : State} {sp : ℕ} {m : Tables} {a b : Outcome B} {r₁ r₀ : Ret} → R g s m → Sims g P C sp m a r₁ → Sims g P C sp m b r₀ →
+      Sims g P C sp m (need (as-bit (toZ w64 x)) p s λ t. branch t a b) (pick (eqb x 0) (λ _. r₀) λ _. pick (eqb x 1) (λ _. r₁) λ _. is NoRule m)
   unfolding need branch pick
   word-bit zero p s h k = k
   word-bit (suc zero) p s h k = h
@@ -311,7 +344,7 @@ module _ {g : Stage} {B : Type 0} {P : B → (t x : ℕ) → Tables → Type 0} 
 
   -- 1 or 0 is asked for
   pub sim-bit : {b : List ℕ} {c t x : ℕ} {u : Val} (p : ℕ) {s : State} {sp : ℕ} {m : Tables} {oa ob : Outcome B} {r₁ r₀ : Ret} → ValR g b c u t x → R g s m →
-      Sim g P sp m oa r₁ → Sim g P sp m ob r₀ → Sim g P sp m (need (as-truth u) p s λ t. branch t oa ob) (onBit t x m (λ _. r₁) λ _. r₀)
+      Sims g P C sp m oa r₁ → Sims g P C sp m ob r₀ → Sims g P C sp m (need (as-truth u) p s λ t. branch t oa ob) (onBit t x m (λ _. r₁) λ _. r₀)
   unfolding need pick onBit
   sim-bit p (v-num x) s h k = word-bit x p s h k
   sim-bit p (v-fun q e n) s h k = no-way s

@@ -62,6 +62,7 @@ unfolding andThen
 ends-then (Value t x) m k = refl
 ends-then (E.Stop n p) m k = refl
 ends-then (E.Unset p q) m k = refl
+ends-then (E.Returned t x) m k = refl
 ends-then NoRule m k = refl
 
 module _ {g : Stage} where

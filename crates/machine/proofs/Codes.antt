@@ -9,7 +9,7 @@ use lib.ListN.{length, getD, length-append}
 use mir.Syntax.{w64}
 use mir.Val.{ofZ}
 use borrow.Author.Tests.{ne-eqb, eq-eqb}
-use Rattle.language.specs.Syntax.{Name, at, TypeTree, Arg, arg, ArgP, Expr, num, name, if-expr, and, or, app, abs, alloc, nth-expr, len, vset, Exprs, one-expr, more-exprs, ExprP, Cmds, last, def-then, stat-then, Def, const, fun, fun-rec, var, proc, proc-rec, Stat, echo, if-stat, while, call, Block, block}
+use Rattle.language.specs.Syntax.{Name, at, TypeTree, Arg, arg, ArgP, Expr, num, name, if-expr, and, or, app, abs, alloc, nth-expr, len, vset, Exprs, one-expr, more-exprs, ExprP, Cmds, last, def-then, stat-then, Def, const, fun, fun-rec, fun-block, fun-rec-block, var, proc, proc-rec, Stat, echo, if-stat, while, call, return, Block, block}
 use Rattle.language.specs.Syntax as Syntax
 use Rattle.language.specs.Names.{head-operator}
 use Rattle.language.specs.Numbers.{ranged}
@@ -18,7 +18,7 @@ use Rattle.language.specs.Types.{values, param-names}
 use Rattle.language.specs.Table.{Forest, leaf, fork, size, first, shapeType, shapeArg, shapeArgs, shapeArgP, shapeArgsP, shapeExpr, shapeExprs, shapeExprP, shapeExprsP, shapeCmds, shapeDef, shapeStat, shapeBlock}
 use Rattle.language.specs.Table as F
 use Rattle.nodes.specs.Forests.{Laid, laid-none, laid-leaf, laid-fork}
-use Rattle.nodes.specs.Trees.{Script, kind, place, child, next, AtType, at-bool, at-int, at-arrow, at-vec, at-val-param, at-var-param, AtParams, at-no-param, at-more-params, AtE, at-num, at-name, at-if, at-and, at-or, at-app, at-abs, at-alloc, at-nth, at-len, at-vset, AtEs, at-one-expr, at-more-exprs, AtA, at-val, at-adr, AtAs, at-no-arg, at-more-args, AtCs, at-last, at-def-then, at-stat-then, AtD, at-const, at-fun, at-fun-rec, at-var, at-proc, at-proc-rec, AtS, at-echo, at-set, at-if-stat, at-while, at-call, AtB, at-block, ReadAs}
+use Rattle.nodes.specs.Trees.{Script, kind, place, child, next, AtType, at-bool, at-int, at-arrow, at-vec, at-val-param, at-var-param, AtParams, at-no-param, at-more-params, AtE, at-num, at-name, at-if, at-and, at-or, at-app, at-abs, at-alloc, at-nth, at-len, at-vset, AtEs, at-one-expr, at-more-exprs, AtA, at-val, at-adr, AtAs, at-no-arg, at-more-args, AtCs, at-last, at-def-then, at-stat-then, AtD, at-const, at-fun, at-fun-rec, at-fun-block, at-fun-rec-block, at-var, at-proc, at-proc-rec, AtS, at-echo, at-set, at-if-stat, at-while, at-call, at-return, AtB, at-block, ReadAs}
 use Rattle.nodes.specs.Written.{numberAt}
 use Rattle.nodes.proofs.Laws.{type-there, params-there, expr-there}
 use Rattle.nodes.proofs.Program.{few-nodes, laid-program, root}
@@ -350,12 +350,15 @@ module _ (g : Script) (codes : List ℕ) where
   past-stat {i} {Γ = Γ} s (at-if-stat k e y a y′ b z) h = behind i 10 Γ (k .kind-is) (fork-of h .2)
   past-stat {i} {Γ = Γ} s (at-while k e y b z) h = behind i 11 Γ (k .kind-is) (fork-of h .2)
   past-stat {i} {Γ = Γ} s (at-call k n as′) h = behind i 12 Γ (k .kind-is) (fork-of h .2)
+  past-stat {i} {Γ = Γ} s (at-return k e z) h = behind i 31 Γ (k .kind-is) (fork-of h .2)
 
   past-def : {i : ℕ} {d : Def} {Γ : List Name} (s : Forest) → AtD g i d → Scoped Γ none i (shapeDef d s) → Scoped (defined d ∷ Γ) none (next g i) s
   unfolding shapeDef entry after isParam pick
   past-def {i} {Γ = Γ} s (at-const k n t e z) h = behind i 2 Γ (k .kind-is) (fork-of h .2)
   past-def {i} {Γ = Γ} s (at-fun k n t a e z) h = behind i 3 Γ (k .kind-is) (fork-of h .2)
   past-def {i} {Γ = Γ} s (at-fun-rec k n t a e z) h = behind i 4 Γ (k .kind-is) (fork-of h .2)
+  past-def {i} {Γ = Γ} s (at-fun-block k n t a y e z) h = behind i 32 Γ (k .kind-is) (fork-of h .2)
+  past-def {i} {Γ = Γ} s (at-fun-rec-block k n t a y e z) h = behind i 33 Γ (k .kind-is) (fork-of h .2)
   past-def {i} {Γ = Γ} s (at-var k n t z) h = behind i 5 Γ (k .kind-is) (fork-of h .2)
   past-def {i} {Γ = Γ} s (at-proc k n a y e z) h = behind i 6 Γ (k .kind-is) (fork-of h .2)
   past-def {i} {Γ = Γ} s (at-proc-rec k n a y e z) h = behind i 7 Γ (k .kind-is) (fork-of h .2)
@@ -370,10 +373,10 @@ module _ (g : Script) (codes : List ℕ) where
 
   -- a definition whose block is; a statement whose blocks are
   abbrev InDef : Def → Type 0
-  InDef = elim [ const p x t e ↦ Unit {0} | fun p x t ps e ↦ Unit {0} | fun-rec p x t ps e ↦ Unit {0} | var p x t ↦ Unit {0} | proc p x ps b ↦ OnBlocks b | proc-rec p x ps b ↦ OnBlocks b ]
+  InDef = elim [ const p x t e ↦ Unit {0} | fun p x t ps e ↦ Unit {0} | fun-rec p x t ps e ↦ Unit {0} | fun-block p x t ps b ↦ OnBlocks b | fun-rec-block p x t ps b ↦ OnBlocks b | var p x t ↦ Unit {0} | proc p x ps b ↦ OnBlocks b | proc-rec p x ps b ↦ OnBlocks b ]
 
   abbrev InStat : Stat → Type 0
-  InStat = elim [ echo p e ↦ Unit {0} | Syntax.set p x e ↦ Unit {0} | if-stat p e a b ↦ OnBlocks a × OnBlocks b | while p e b ↦ OnBlocks b | call p x as′ ↦ Unit {0} ]
+  InStat = elim [ echo p e ↦ Unit {0} | Syntax.set p x e ↦ Unit {0} | if-stat p e a b ↦ OnBlocks a × OnBlocks b | while p e b ↦ OnBlocks b | call p x as′ ↦ Unit {0} | return p e ↦ Unit {0} ]
 
   def-coded : {i : ℕ} {d : Def} {Γ : List Name} (s : Forest) → AtD g i d → InDef d → Scoped Γ none i (shapeDef d s) → CodedD g codes Γ i d
   unfolding shapeDef entry ownOf pick
@@ -387,6 +390,14 @@ module _ (g : Script) (codes : List ℕ) where
       λ j′ a′. subst (λ (j : ℕ). CodedE g codes (nameOf g (child g i) ∷ extended (param-names (values ps)) Γ) j b) (one-end a a′)
       (coded-expr b F.none e (own-expr b _ z (past-values ps _ a (expr-there e) (past-type _ t (params-there a (expr-there e))
       (past-name (n .kind-is) (type-there t) (kids-of i 4 (k .kind-is) (fork-of h .1)))))))
+  def-coded {i} {Γ = Γ} s (at-fun-block {ps = ps} {b = b} k n t a y e z) q h =
+      λ j′ a′. subst (λ (j : ℕ). CodedB g codes (extended (param-names (values ps)) Γ) j b) (one-end a a′)
+      (q _ _ F.none e (past-values ps _ a y (past-type _ t (params-there a y)
+      (past-name (n .kind-is) (type-there t) (kids-of i 32 (k .kind-is) (fork-of h .1))))))
+  def-coded {i} {Γ = Γ} s (at-fun-rec-block {ps = ps} {b = b} k n t a y e z) q h =
+      λ j′ a′. subst (λ (j : ℕ). CodedB g codes (nameOf g (child g i) ∷ extended (param-names (values ps)) Γ) j b) (one-end a a′)
+      (q _ _ F.none e (own-block b _ z (past-values ps _ a y (past-type _ t (params-there a y)
+      (past-name (n .kind-is) (type-there t) (kids-of i 33 (k .kind-is) (fork-of h .1)))))))
   def-coded {i} {Γ = Γ} s (at-var k n t z) q h = tt
   def-coded {i} {Γ = Γ} s (at-proc {ps = ps} {b = b} k n a y e z) q h =
       λ j′ a′. subst (λ (j : ℕ). CodedB g codes (extended (param-names ps) Γ) j b) (one-end a a′)
@@ -404,6 +415,7 @@ module _ (g : Script) (codes : List ℕ) where
   stat-coded {i} s (at-while {e = c} k e y b z) q h =
       let x = kids-of i 11 (k .kind-is) (fork-of h .1) in (coded-expr c _ e x, q _ _ _ b (past-expr _ e x))
   stat-coded {i} s (at-call k n as′) q h = let y = used (n .kind-is) (kids-of i 12 (k .kind-is) (fork-of h .1)) in (y .0, coded-args as′ (y .1))
+  stat-coded {i} s (at-return {e = b} k e z) q h = coded-expr b _ e (kids-of i 31 (k .kind-is) (fork-of h .1))
 
   mutual
     unfolding shapeCmds entry ownOf pick
@@ -417,6 +429,8 @@ module _ (g : Script) (codes : List ℕ) where
     def-blocks (const p x t e) = tt
     def-blocks (fun p x t ps e) = tt
     def-blocks (fun-rec p x t ps e) = tt
+    def-blocks (fun-block p x t ps b) = λ i Γ s t h. coded-block b i Γ s t h
+    def-blocks (fun-rec-block p x t ps b) = λ i Γ s t h. coded-block b i Γ s t h
     def-blocks (var p x t) = tt
     def-blocks (proc p x ps b) = λ i Γ s t h. coded-block b i Γ s t h
     def-blocks (proc-rec p x ps b) = λ i Γ s t h. coded-block b i Γ s t h
@@ -427,6 +441,7 @@ module _ (g : Script) (codes : List ℕ) where
     stat-blocks (if-stat p e a b) = ((λ i Γ s t h. coded-block a i Γ s t h), λ i Γ s t h. coded-block b i Γ s t h)
     stat-blocks (while p e b) = λ i Γ s t h. coded-block b i Γ s t h
     stat-blocks (call p x as′) = tt
+    stat-blocks (return p e) = tt
 
     coded-block : (b : Block) → OnBlocks b
     coded-block (block p cs) i Γ s t h = let v = in-block t in coded-cmds cs (v .1) (kids-of i 1 (v .0) (fork-of h .1))

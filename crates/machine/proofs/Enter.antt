@@ -12,7 +12,7 @@ use Rattle.language.specs.Syntax.{Name, ArgP}
 use Rattle.language.specs.Answers.{LimitStop, BINDINGS}
 use Rattle.language.specs.Types.{param-names}
 use Rattle.language.specs.Limits.{Limits}
-use Rattle.language.specs.Rules.{Val, Env, bound, State, Outcome, ok, need, within, make, take-bindings, bind-all, Entered, entering, also, open-function, open-procedure}
+use Rattle.language.specs.Rules.{Val, Env, bound, State, Outcome, ok, need, within, make, take-bindings, bind-all, Entered, entering, also, an-expr, a-block, open-function, open-procedure}
 use Rattle.language.specs.Rules as Rules
 use Rattle.nodes.specs.Nodes.{nodeAt}
 use Rattle.nodes.specs.Trees.{next, at-val-param, at-var-param, AtParams, at-no-param, at-more-params}
@@ -27,7 +27,7 @@ use Rattle.machine.specs.State.{Tables, Ret, is, andThen, bind}
 use Rattle.machine.specs.Leaves.{codeIn, jumpFrom, bindingBehind, isParam, bodyAfter, bindAll, enter, enterAgain, openFunction, openProcedure}
 use Rattle.machine.proofs.Entries.{binding-own, binding-length, binding-beyond}
 use Rattle.machine.proofs.Lists.{room-is}
-use Rattle.machine.proofs.Relation.{Stage, run-of, slot, Kept, Old, v-num, v-fun, v-rec, v-proc, v-proc-rec, v-adr, v-block, e-bound, ValR, EnvR, Waits, w-none, w-more, R, Grow, Sim, goes, no-way, Made, Waiting, IsEntered, Zip, z-none, z-more, Fit, fit, unfit, Bound, Named, Wait, IsVal, scope, InE, InB}
+use Rattle.machine.proofs.Relation.{Stage, run-of, slot, Kept, Old, v-num, v-fun, v-rec, v-proc, v-proc-rec, v-adr, v-block, e-bound, ValR, EnvR, Waits, w-none, w-more, R, Grow, Sims, Sim, goes, no-way, Made, Waiting, IsEntered, InBody, Zip, z-none, z-more, Fit, fit, unfit, Bound, Named, Wait, IsVal, scope, InB}
 use Rattle.machine.proofs.Chain.{code-in, code-most, jump-from}
 use Rattle.machine.proofs.Agree.{kept-self, kept-then, keep, waits-keep, env-in, tag-small, sim-within, sim-bind}
 use Rattle.machine.proofs.States.{old-more, r-bind}
@@ -196,19 +196,6 @@ module _ {g : Stage} where
 
   -- ---- closures are opened
 
-  pub function-sim : (p k n : ℕ) {t x : ℕ} {u : Val} {us : List Val} {sp : ℕ} {s : State} {m₀ m : Tables} → IsVal g u t x m →
-      Waiting g m₀ sp 0 us k n m → R g s m →
-      Sim g (Made g (length us) m (IsEntered g (InE g))) sp m (need (open-function u us) p s λ c. make g.limits (c .count) p s λ s₁. ok c s₁)
-      (openFunction (run-of g) p n (slot sp) t x m)
-  unfolding openFunction pick need
-  function-sim p k n (v-num x) w r = no-way r
-  function-sim p k n (v-fun a b e) w r = enter-sim p k n _ a b w e r
-  function-sim p k n (v-rec a b e) w r = again-sim p k n _ _ _ _ a b w e (v-rec a b e) r
-  function-sim p k n (v-proc a b e) w r = no-way r
-  function-sim p k n (v-proc-rec a b e) w r = no-way r
-  function-sim p k n v-adr w r = no-way r
-  function-sim p k n (v-block x) w r = no-way r
-
   pub procedure-sim : (p k n : ℕ) {t x : ℕ} {u : Val} {us : List Val} {sp : ℕ} {s : State} {m₀ m : Tables} → IsVal g u t x m →
       Waiting g m₀ sp 0 us k n m → R g s m →
       Sim g (Made g (length us) m (IsEntered g (InB g))) sp m (need (open-procedure u us) p s λ c. make g.limits (c .count) p s λ s₁. ok c s₁)
@@ -221,6 +208,19 @@ module _ {g : Stage} where
   procedure-sim p k n (v-proc-rec a b e) w r = again-sim p k n _ _ _ _ a b w e (v-proc-rec a b e) r
   procedure-sim p k n v-adr w r = no-way r
   procedure-sim p k n (v-block x) w r = no-way r
+
+  pub function-sim : (p k n : ℕ) {t x : ℕ} {u : Val} {us : List Val} {sp : ℕ} {s : State} {m₀ m : Tables} → IsVal g u t x m →
+      Waiting g m₀ sp 0 us k n m → R g s m →
+      Sim g (Made g (length us) m (IsEntered g (InBody g))) sp m (need (open-function u us) p s λ c. make g.limits (c .count) p s λ s₁. ok c s₁)
+      (openFunction (run-of g) p n (slot sp) t x m)
+  unfolding openFunction openProcedure pick need
+  function-sim p k n (v-num x) w r = no-way r
+  function-sim p k n (v-fun {e = c} a b e) w r = enter-sim p k n (an-expr c) a b w e r
+  function-sim p k n (v-rec {e = c} a b e) w r = again-sim p k n _ _ (an-expr c) _ a b w e (v-rec a b e) r
+  function-sim p k n (v-proc {a = c} a b e) w r = enter-sim p k n (a-block c) a b w e r
+  function-sim p k n (v-proc-rec {a = c} a b e) w r = again-sim p k n _ _ (a-block c) _ a b w e (v-proc-rec a b e) r
+  function-sim p k n v-adr w r = no-way r
+  function-sim p k n (v-block x) w r = no-way r
 
 -- what is entered, and then the rest
 within-bind : {A B : Type 0} (b : Bool) (l : LimitStop) (p : ℕ) (s : State) (o : Outcome A) (k : A → State → Outcome B) →
@@ -235,10 +235,10 @@ unfolding need Rules.bind
 opened-bind L none p s k = refl
 opened-bind L (some c) p s k = within-bind (leb (c .count + s .bindings) (L .bindings)) BINDINGS p s (ok c (take-bindings (c .count) s)) k
 
-module _ {g : Stage} {A B : Type 0} {P : Entered A → (t x : ℕ) → Tables → Type 0} {Q : B → (t x : ℕ) → Tables → Type 0} where
+module _ {g : Stage} {A B : Type 0} {P : Entered A → (t x : ℕ) → Tables → Type 0} {Q C : B → (t x : ℕ) → Tables → Type 0} where
   pub sim-open : (o : Option (Entered A)) (p : ℕ) (s : State) {sp : ℕ} {m : Tables} {r : Ret} (k : Entered A → State → Outcome B) {k′ : ℕ → ℕ → Tables → Ret} →
       Sim g P sp m (need o p s λ c. make g.limits (c .count) p s λ s₁. ok c s₁) r →
-      ((c : Entered A) (s₁ : State) (t x : ℕ) (m₁ : Tables) → P c t x m₁ → R g s₁ m₁ → Grow g sp m m₁ → Sim g Q sp m₁ (k c s₁) (k′ t x m₁)) →
-      Sim g Q sp m (need o p s λ c. make g.limits (c .count) p s λ s₁. k c s₁) (andThen r k′)
+      ((c : Entered A) (s₁ : State) (t x : ℕ) (m₁ : Tables) → P c t x m₁ → R g s₁ m₁ → Grow g sp m m₁ → Sims g Q C sp m₁ (k c s₁) (k′ t x m₁)) →
+      Sims g Q C sp m (need o p s λ c. make g.limits (c .count) p s λ s₁. k c s₁) (andThen r k′)
   sim-open o p s {sp} {m} {r} k {k′} h f =
-      subst (λ (y : Outcome B). Sim g Q sp m y (andThen r k′)) (sym (opened-bind g.limits o p s k)) (sim-bind h f)
+      subst (λ (y : Outcome B). Sims g Q C sp m y (andThen r k′)) (sym (opened-bind g.limits o p s k)) (sim-bind h f)

@@ -3,6 +3,7 @@ use Prim.Native.Nat.{ℕ, _*_}
 use Prim.Native.String.{String}
 use mathlib.Core.Path.{_≡_, refl}
 use mathlib.Core.List.{List, [], _∷_}
+use mathlib.Core.Option.{none}
 use lib.IntN.{pos, negsuc}
 use lib.ListN.{replicate}
 use Rattle.language.specs.Bytes.{bytesOf}
@@ -14,7 +15,7 @@ use Rattle.language.specs.Outcome.{Report}
 use Rattle.language.specs.Desk.{Case, case, ends, limited}
 use Rattle.language.specs.Words.{wordsFrom}
 use Rattle.language.specs.Table.{table, enc, size, first, shapeType, shapeTypes, shapeArg, shapeArgs, shapeArgP, shapeArgsP, shapeExpr, shapeExprs, shapeExprP, shapeExprsP, shapeCmds, shapeDef, shapeStat, shapeBlock}
-use Rattle.language.proofs.reading.Machine.{set-sib, link, add-leaf, add-fork, retype, parse}
+use Rattle.language.proofs.reading.Machine.{set-sib, link, add-leaf, add-fork, retype, set-block, blocked, parse}
 use Rattle.language.proofs.reading.Descent.{descent}
 use Rattle.language.proofs.reading.Reader.{past, deep, read}
 use Rattle.nodes.specs.Nodes.{nodeAt}
@@ -22,8 +23,8 @@ use Rattle.nodes.specs.Written.{numberAt}
 use Rattle.machine.specs.Entries.{pick, rowAfter, rowAt, putRow, cellAt, putCell, putCells, bindingAt, putBinding, closureWord, nodeOf, envOf}
 use Rattle.machine.specs.State.{andThen, guard}
 use Rattle.machine.specs.Codes.{codeOver, levelIn, operatorAt, codeFor, after, ownOf, entry, rowCodes, codesOf}
-use Rattle.machine.specs.Leaves.{codeIn, jumpIn, jumpFrom, bindingBehind, walk, boundTo, addressOf, cellValue, readThrough, nameValue, computedBy, negated, combined, elementOf, elementValue, lengthValue, setElement, isParam, bodyAfter, bindAll, enter, enterAgain, openFunction, openProcedure, define, defineCell, allocate}
-use Rattle.machine.specs.Machine.{onBit, args, allArgs, ifE, andE, orE, operatorE, callE, applyE, allocE, nthE, lenE, vsetE, exprBy, constC, echoC, setC, blockC, ifC, callC, round, rounds, cmdBy, cmdIn, cmds, step, bottom, evaluators, blockAt}
+use Rattle.machine.specs.Leaves.{codeIn, jumpIn, jumpFrom, bindingBehind, walk, boundTo, addressOf, cellValue, readThrough, nameValue, computedBy, negated, combined, elementOf, elementValue, lengthValue, setElement, isParam, isType, behindType, bodyAfter, bindAll, enter, enterAgain, openFunction, openProcedure, define, defineCell, allocate}
+use Rattle.machine.specs.Machine.{onBit, args, allArgs, ifE, andE, orE, operatorE, bodyE, callE, applyE, allocE, nthE, lenE, vsetE, exprBy, constC, echoC, setC, returnC, blockC, ifC, callC, round, rounds, cmdBy, cmdIn, cmds, step, bottom, evaluators, blockAt}
 use Rattle.machine.specs.Shown.{fresh, program, shown}
 
 abbrev tree-of : Result Block → List ℕ
@@ -65,8 +66,18 @@ scripts =
     case "[ECHO (len (vset (alloc int 2) 2 0))]" (limited 100 20 4 6 4) (ends (stopped (error INDEX) 11) 7 0 2 []) ∷
     case "[ECHO (nth (alloc int 2) 1)]" (limited 100 20 4 6 4) (ends (stopped (error (UNSET 11)) 6) 5 0 2 []) ∷
     case "[PROC p [var x:int] [ECHO x]; VAR v int; CALL p (adr v)]" (limited 100 20 4 6 4) (ends (stopped (error (UNSET 30)) 26) 6 3 1 []) ∷
+    case "[FUN f int [x:int] [IF (lt x 0) [RETURN 0] [ECHO x]; RETURN x]; ECHO (f 4); ECHO (f -4)]" (limited 100 20 4 0 4)
+    (ends done 23 3 0 (pos 4 ∷ pos 4 ∷ pos 0 ∷ [])) ∷
+    case "[FUN f bool [a:int, b:int] [VAR x int; SET x a; WHILE (lt x b) [IF (eq (mul x x) 9) [RETURN true] [SET x (add x 1)]]; RETURN false]; ECHO (if (f 2 5) 1 0); ECHO (if (f 4 6) 1 0)]"
+    (limited 100 20 7 2 4) (ends done 81 7 2 (pos 1 ∷ pos 0 ∷ [])) ∷
+    case "[FUN REC f int [n:int] [IF (lt n 1) [RETURN 0] [RETURN (add n (f (sub n 1)))]]; ECHO (f 3)]" (limited 100 20 9 0 1) (ends done 47 9 0 (pos 6 ∷ [])) ∷
+    case "[FUN REC f int [f:int] [IF true [RETURN 4] [RETURN (f 0)]]; ECHO (f 1)]" (limited 100 20 4 0 1) (ends done 9 3 0 (pos 4 ∷ [])) ∷
+    case "[FUN f (int -> int) [a:int] [RETURN [b:int] (sub a b)]; ECHO ((f 3) 4)]" (limited 100 20 4 0 1) (ends done 12 3 0 (negsuc 0 ∷ [])) ∷
+    case "[PROC REC p [x:int] [IF (lt x 1) [ECHO x] [CALL p (sub x 1)]]; CALL p 2]" (limited 100 20 7 0 1) (ends done 25 7 0 (pos 0 ∷ [])) ∷
+    case "[FUN f int [x:int] [VAR v int; RETURN v]; ECHO (f 3)]" (limited 100 20 4 1 1) (ends (stopped (error (UNSET 20)) 38) 8 3 1 []) ∷
+    case "[RETURN 1]" (limited 100 20 4 1 1) (record { end = none; units = 2; bindings = 0; cells = 0; numbers = [] }) ∷
     []
 
 scripts-shown : AllShown scripts
-unfolding read wordsFrom parse add-leaf add-fork link set-sib retype descent past deep table enc size first shapeType shapeTypes shapeArg shapeArgs shapeArgP shapeArgsP shapeExpr shapeExprs shapeExprP shapeExprsP shapeCmds shapeDef shapeStat shapeBlock meaning nodeAt numberAt pick rowAfter rowAt putRow cellAt putCell putCells bindingAt putBinding closureWord nodeOf envOf andThen guard codeOver levelIn operatorAt codeFor after ownOf entry rowCodes codesOf codeIn jumpIn jumpFrom bindingBehind walk boundTo addressOf cellValue readThrough nameValue computedBy negated combined elementOf elementValue lengthValue setElement isParam bodyAfter bindAll enter enterAgain openFunction openProcedure define defineCell allocate onBit args allArgs ifE andE orE operatorE callE applyE allocE nthE lenE vsetE exprBy constC echoC setC blockC ifC callC round rounds cmdBy cmdIn cmds step bottom evaluators blockAt program
-scripts-shown = (refl, (refl, (refl, (refl, (refl, (refl, (refl, (refl, (refl, (refl, (refl, (refl, (refl, (refl, (refl, (refl, (refl, tt)))))))))))))))))
+unfolding read wordsFrom parse add-leaf add-fork link set-sib retype set-block blocked descent past deep table enc size first shapeType shapeTypes shapeArg shapeArgs shapeArgP shapeArgsP shapeExpr shapeExprs shapeExprP shapeExprsP shapeCmds shapeDef shapeStat shapeBlock meaning nodeAt numberAt pick rowAfter rowAt putRow cellAt putCell putCells bindingAt putBinding closureWord nodeOf envOf andThen guard codeOver levelIn operatorAt codeFor after ownOf entry rowCodes codesOf codeIn jumpIn jumpFrom bindingBehind walk boundTo addressOf cellValue readThrough nameValue computedBy negated combined elementOf elementValue lengthValue setElement isParam isType behindType bodyAfter bindAll enter enterAgain openFunction openProcedure define defineCell allocate onBit args allArgs ifE andE orE operatorE bodyE callE applyE allocE nthE lenE vsetE exprBy constC echoC setC returnC blockC ifC callC round rounds cmdBy cmdIn cmds step bottom evaluators blockAt program
+scripts-shown = (refl, (refl, (refl, (refl, (refl, (refl, (refl, (refl, (refl, (refl, (refl, (refl, (refl, (refl, (refl, (refl, (refl, (refl, (refl, (refl, (refl, (refl, (refl, (refl, (refl, tt)))))))))))))))))))))))))

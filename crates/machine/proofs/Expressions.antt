@@ -10,21 +10,21 @@ use lib.Dec.{T, eqb, eqb→eq}
 use lib.ListN.{length}
 use mir.Syntax.{w64}
 use mir.Val.{ofZ}
-use Rattle.language.specs.Syntax.{Expr, if-expr, and, or, alloc, nth-expr, len, vset, Exprs, ExprP, TypeTree}
+use Rattle.language.specs.Syntax.{Expr, if-expr, and, or, alloc, nth-expr, len, vset, Exprs, ExprP, Block, TypeTree}
 use Rattle.language.specs.Names.{Op, operator, head-operator}
-use Rattle.language.specs.Rules.{Val, inZ, Env, State, Outcome, ok, bind, Level, exprs, args, apply-rule, expr-rule, arg-rule, open-function}
+use Rattle.language.specs.Rules.{Val, inZ, Env, State, Outcome, ok, bind, Level, exprs, args, Body, an-expr, a-block, in-block, in-body, need, apply-rule, expr-rule, arg-rule, open-function, Returned}
 use Rattle.nodes.specs.Names.{meaningNo}
 use Rattle.nodes.specs.Written.{Numeral, numberAt}
-use Rattle.nodes.specs.Trees.{kind, place, child, next, AtE, at-num, at-name, at-if, at-and, at-or, at-app, at-abs, at-alloc, at-nth, at-len, at-vset, AtEs, at-one-expr, at-more-exprs, AtA, at-val, at-adr, AtAs, at-no-arg, at-more-args}
+use Rattle.nodes.specs.Trees.{Script, kind, place, child, next, AtE, at-num, at-name, at-if, at-and, at-or, at-app, at-abs, at-alloc, at-nth, at-len, at-vset, AtEs, at-one-expr, at-more-exprs, AtA, at-val, at-adr, AtAs, at-no-arg, at-more-args, AtB, at-block}
 use Rattle.nodes.proofs.Laws.{expr-there, exprs-there, arg-there}
 use Rattle.machine.specs.declared.Ending.the-variants.{Value}
 use Rattle.machine.specs.Entries.{pick, number-tag, done-tag, ring-rows}
-use Rattle.machine.specs.Codes.{operatorNo, CodedE, CodedEs, CodedA, CodedAs}
-use Rattle.machine.specs.State.{Tables, Ret, is, spend, push}
-use Rattle.machine.specs.Machine.{Evaluators, allArgs, ifE, andE, orE, operatorE, callE, applyE, allocE, nthE, lenE, vsetE, exprBy}
+use Rattle.machine.specs.Codes.{operatorNo, CodedE, CodedEs, CodedA, CodedAs, CodedB}
+use Rattle.machine.specs.State.{Tables, Ret, is, caught, spend, push}
+use Rattle.machine.specs.Machine.{Evaluators, allArgs, ifE, andE, orE, operatorE, bodyE, callE, applyE, allocE, nthE, lenE, vsetE, exprBy}
 use Rattle.machine.specs.Machine as M
 use Rattle.machine.proofs.Entries.{row-own, row-other, place-small, child-small}
-use Rattle.machine.proofs.Relation.{Stage, run-of, slot, v-num, w-none, w-more, R, Grow, Sim, goes, IsVal, Some, Waiting, Here, Adeq, node, code, scope, InE, InEs, InAs}
+use Rattle.machine.proofs.Relation.{Stage, run-of, slot, v-num, w-none, w-more, R, Grow, Sims, Sim, goes, returns, stops, unset, no-way, IsVal, IsBack, Ran, InB, InBody, Some, Waiting, Here, Adeq, node, code, scope, InE, InEs, InAs}
 use Rattle.machine.proofs.Agree.{keep, grow-self, sim-lift, relax, some-sim, making, sim-yes, sim-no, sim-bind, sim-each, sim-call, sim-stuck, sim-map, sim-ok, sim-after, bind-ok, sim-bit}
 use Rattle.machine.proofs.States.{r-push}
 use Rattle.machine.proofs.Closures.{function-value}
@@ -39,6 +39,23 @@ other-slot k top h l = omega arith
 zero-is : {i : ℕ} → i ≡ 0 → T (eqb i 0)
 zero-is e = subst (λ (j : ℕ). T (eqb j 0)) (sym e) tt
 
+-- an expression is no block
+no-block : {g : Script} {i : ℕ} {e : Expr} → AtE g i e → kind g i ≡ 1 → ⊥
+no-block (at-num k n) e = omega (arith, k .kind-is, e)
+no-block (at-name k) e = omega (arith, k .kind-is, e)
+no-block (at-if k a b c z) e = omega (arith, k .kind-is, e)
+no-block (at-and k a b z) e = omega (arith, k .kind-is, e)
+no-block (at-or k a b z) e = omega (arith, k .kind-is, e)
+no-block (at-app k f as′) e = omega (arith, k .kind-is, e)
+no-block (at-abs k ps a z) e = omega (arith, k .kind-is, e)
+no-block (at-alloc k t a z) e = omega (arith, k .kind-is, e)
+no-block (at-nth k a b z) e = omega (arith, k .kind-is, e)
+no-block (at-len k a z) e = omega (arith, k .kind-is, e)
+no-block (at-vset k a b c z) e = omega (arith, k .kind-is, e)
+
+is-block : {g : Script} {i : ℕ} {b : Block} → AtB g i b → T (eqb (kind g i) 1)
+is-block (at-block k a) = subst (λ (j : ℕ). T (eqb j 1)) (sym k) tt
+
 module _ {g : Stage} where
   -- what was there is there further on
   pub onward : {ρ : Env} {env sp : ℕ} {s s₁ : State} {m m₁ : Tables} → Here g ρ env s m → R g s₁ m₁ → Grow g sp m m₁ → Here g ρ env s₁ m₁
@@ -47,6 +64,20 @@ module _ {g : Stage} where
   -- a unit is taken
   pub inside : {ρ : Env} {env : ℕ} {s s₁ : State} {m : Tables} → Here g ρ env s m → R g s₁ (spend m) → Here g ρ env s₁ (spend m)
   inside h r = record { names′ = h .names′; st = r }
+
+  -- ---- bodies
+
+  -- what a block returned is its value
+  caught-sim : (p : ℕ) {sp : ℕ} {m : Tables} {o : Outcome Returned} {r : Ret} → Sims g Ran (IsBack g) sp m o r →
+      Sim g (IsVal g) sp m (bind o λ u s₁. need u p s₁ λ v. ok v s₁) (is (caught (r .ending)) (r .after))
+  unfolding bind need
+  caught-sim p (goes {a = none} q s a) = no-way s
+  caught-sim p (goes {a = some v} q s a) = absurd q
+  caught-sim p (returns {a = none} b s a) = absurd b
+  caught-sim p (returns {a = some v} b s a) = goes b s a
+  caught-sim p (stops w s) = stops w s
+  caught-sim p (unset s) = unset s
+  caught-sim p (no-way s) = no-way s
 
   -- ---- values wait
 
@@ -161,6 +192,21 @@ module _ {g : Stage} where
         (sim-after _ _ _ (sim-stuck (all-exprs sp (record { at = cs; coded = q .1 .1 }) (onward (onward x r₁ gr) r₂ gr₂)) _ λ us s₃ t₃ n m₃ w.
         bind-ok _ _ _ ∙ (bind-ok _ _ _ ∙ more-stuck f u u₂ us _ s₃ (w .some))))))))
 
+    within-block : {i : ℕ} {b : Block} {ρ : Env} {env sp : ℕ} {s : State} {m : Tables} → AtB g.script i b → CodedB g.script g.codes (scope ρ) i b → Here g ρ env s m →
+        Sims g Ran (IsBack g) sp m (in-block l b ρ s) (S .block env (slot sp) (child g.script i) m)
+    within-block (at-block k a) q x = h .onC (record { at = a; coded = q }) x
+
+    pub on-block : {i : ℕ} {b : Block} {ρ : Env} {env sp : ℕ} {s : State} {m : Tables} → InB g (scope ρ) i b → Here g ρ env s m →
+        Sims g Ran (IsBack g) sp m (in-block l b ρ s) (S .block env (slot sp) (child g.script i) m)
+    on-block a x = within-block (a .at) (a .coded) x
+
+    -- what a body comes to
+    body-sim : (b : Body) (p i : ℕ) {ρ : Env} {env sp : ℕ} {s : State} {m : Tables} → InBody g (scope ρ) i b → Here g ρ env s m →
+        Sim g (IsVal g) sp m (in-body l b ρ p s) (bodyE (run-of g) S env (slot sp) i m)
+    unfolding bodyE
+    body-sim (an-expr e) p i a x = sim-no _ _ (λ t. no-block (a .at) (eqb→eq _ _ t)) (relax (h .onE a x))
+    body-sim (a-block b) p i a x = sim-yes _ _ (is-block (a .at)) (caught-sim p (on-block a x))
+
     call-sim : (i : ℕ) {f : Expr} {es : Exprs} {ρ : Env} {env sp : ℕ} {s : State} {m : Tables} → InE g (scope ρ) (child g.script i) f →
         InEs g (scope ρ) (next g.script (child g.script i)) es → Here g ρ env s m →
         Sim g (IsVal g) sp m (apply-rule g.limits l none (place g.script i) f es ρ s) (callE (run-of g) S env (slot sp) (node g i) m)
@@ -168,9 +214,9 @@ module _ {g : Stage} where
     call-sim i {sp = sp} f a x =
         sim-bind (h .onE f x) λ u s₁ t y m₁ v r₁ gr.
         sim-call (some-sim (all-exprs sp a (onward x r₁ gr))) λ us s₂ k n m₂ w r₂ gr₂.
-        sim-open (open-function u us) _ s₂ (λ c s₃. l .expr (c .body) (c .env) s₃) (function-sim _ k n (keep (v .it) (gr₂ .more) (gr₂ .old)) w r₂)
+        sim-open (open-function u us) _ s₂ (λ c s₃. in-body l (c .body) (c .env) (place g.script i) s₃) (function-sim _ k n (keep (v .it) (gr₂ .more) (gr₂ .old)) w r₂)
         λ c s₃ env₁ j m₃ b r₃ gr₃.
-        making (length us) (b .made) (relax (h .onE (b .it .body-in) (record { names′ = b .it .in-env; st = r₃ })))
+        making (length us) (b .made) (body-sim (c .body) _ j (b .it .body-in) (record { names′ = b .it .in-env; st = r₃ }))
 
     apply-sim : (i : ℕ) (o : Option Op) {f : Expr} {es : Exprs} {ρ : Env} {env sp : ℕ} {s : State} {m : Tables} → InE g (scope ρ) (child g.script i) f →
         InEs g (scope ρ) (next g.script (child g.script i)) es → Here g ρ env s m →

@@ -7,7 +7,7 @@ use lib.Dec.{T, eqb, ltb→lt, lt→ltb, eqb→eq}
 use Rattle.nodes.specs.declared.Node.{Node}
 use Rattle.nodes.specs.Nodes.{nodeAt}
 use Rattle.machine.specs.declared.Ending.{Ending}
-use Rattle.machine.specs.declared.Ending.the-variants.{Value, Stop, Unset, NoRule}
+use Rattle.machine.specs.declared.Ending.the-variants.{Value, Stop, Unset, Returned, NoRule}
 use Rattle.machine.specs.Entries.{pick}
 use Rattle.machine.specs.State.{Run, codeAt, Tables, Ret, is, valued, spend, guard}
 use Rattle.machine.specs.Machine.{Evaluators, args, exprBy, rounds, cmdBy, cmdIn, cmds, step, evaluators, below, exprAt, blockAt, level, cmdAt, whileAt}
@@ -98,4 +98,5 @@ pub valued-le : (e : Ending) → valued e ≤ 1
 valued-le (Value t x) = omega arith
 valued-le (Stop n p) = omega arith
 valued-le (Unset p q) = omega arith
+valued-le (Returned t x) = omega arith
 valued-le NoRule = omega arith

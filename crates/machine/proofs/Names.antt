@@ -22,7 +22,7 @@ use Rattle.machine.specs.State.{Tables, Ret, is, andThen, ifValue}
 use Rattle.machine.specs.Leaves.{boundTo, addressOf, cellValue, readThrough, nameValue, walk}
 use Rattle.machine.specs.Codes.{codeOver, levelIn, codeBy, Used}
 use Rattle.machine.proofs.Lists.{asks-nth}
-use Rattle.machine.proofs.Relation.{Stage, v-num, v-fun, v-rec, v-proc, v-proc-rec, v-adr, v-block, ValR, EnvR, Found, found, lost, CellR, c-unset, c-set, R, Sim, goes, unset, no-way, IsVal, Named, code, scope}
+use Rattle.machine.proofs.Relation.{Stage, v-num, v-fun, v-rec, v-proc, v-proc-rec, v-adr, v-block, ValR, EnvR, Found, found, lost, CellR, c-unset, c-set, R, Sims, Sim, goes, unset, no-way, IsVal, Named, code, scope}
 use Rattle.machine.proofs.Chain.{over-least, name-finds}
 use Rattle.machine.proofs.Agree.{grow-self, end-need}
 
@@ -67,24 +67,24 @@ module _ {g : Stage} where
       Found g b c (look ρ x) (boundTo b (code g q) e)
   bound-finds {ρ = ρ} e l {x = x} z = rw (z .code-is) (bound-by (meaning x) _ _ (not-nine (scope ρ) x) (name-finds e l x))
 
-  module _ {B : Type 0} {P : B → (t x : ℕ) → Tables → Type 0} where
+  module _ {B : Type 0} {P C : B → (t x : ℕ) → Tables → Type 0} where
     found-sim : {b : List ℕ} {c : ℕ} {o : Option Val} {e : Ending} (p : ℕ) {s : State} {sp : ℕ} {m : Tables} {k : Val → Outcome B} (k′ : ℕ → ℕ → Tables → Ret) →
-        Found g b c o e → R g s m → ((u : Val) (t x : ℕ) → ValR g b c u t x → Sim g P sp m (k u) (k′ t x m)) → Sim g P sp m (need o p s k) (andThen (is e m) k′)
+        Found g b c o e → R g s m → ((u : Val) (t x : ℕ) → ValR g b c u t x → Sims g P C sp m (k u) (k′ t x m)) → Sims g P C sp m (need o p s k) (andThen (is e m) k′)
     unfolding need andThen
     found-sim p k′ (found u) s f = f _ _ _ u
     found-sim p k′ lost s f = no-way s
 
     pub sim-look : {ρ : Env} {env q : ℕ} {y : Name} (p : ℕ) {s : State} {sp : ℕ} {m : Tables} {k : Val → Outcome B} (k′ : ℕ → ℕ → Tables → Ret) →
         Used g.script g.codes (scope ρ) q y → Named g ρ env m → R g s m →
-        ((u : Val) (t x : ℕ) → IsVal g u t x m → Sim g P sp m (k u) (k′ t x m)) →
-        Sim g P sp m (need (look ρ y) p s k) (andThen (is (boundTo (m .bindings) (code g q) env) m) k′)
+        ((u : Val) (t x : ℕ) → IsVal g u t x m → Sims g P C sp m (k u) (k′ t x m)) →
+        Sims g P C sp m (need (look ρ y) p s k) (andThen (is (boundTo (m .bindings) (code g q) env) m) k′)
     sim-look p k′ z n s f = found-sim p k′ (bound-finds n (few s) z) s f
 
     -- ---- asked for an address
 
     located : {b : List ℕ} {c : ℕ} {o : Option Val} {e : Ending} (p : ℕ) {s : State} {sp : ℕ} {m : Tables} {k : ℕ → Outcome B} (k′ : ℕ → ℕ → Tables → Ret) →
-        Found g b c o e → R g s m → ((a : ℕ) → Sim g P sp m (k a) (k′ address-tag a m)) →
-        Sim g P sp m (need o p s λ v. need (as-address v) p s k)
+        Found g b c o e → R g s m → ((a : ℕ) → Sims g P C sp m (k a) (k′ address-tag a m)) →
+        Sims g P C sp m (need o p s λ v. need (as-address v) p s k)
         (andThen (is (ifValue e λ t a. pick (eqb t address-tag) (λ _. Value address-tag a) λ _. NoRule) m) k′)
     unfolding need andThen pick
     located p k′ lost s f = no-way s
@@ -97,8 +97,8 @@ module _ {g : Stage} where
     located p k′ (found (v-block x)) s f = no-way s
 
     pub sim-address : {ρ : Env} {env q : ℕ} {y : Name} (p : ℕ) {s : State} {sp : ℕ} {m : Tables} {k : ℕ → Outcome B} (k′ : ℕ → ℕ → Tables → Ret) →
-        Used g.script g.codes (scope ρ) q y → Named g ρ env m → R g s m → ((a : ℕ) → Sim g P sp m (k a) (k′ address-tag a m)) →
-        Sim g P sp m (need (look ρ y) p s λ v. need (as-address v) p s k)
+        Used g.script g.codes (scope ρ) q y → Named g ρ env m → R g s m → ((a : ℕ) → Sims g P C sp m (k a) (k′ address-tag a m)) →
+        Sims g P C sp m (need (look ρ y) p s λ v. need (as-address v) p s k)
         (andThen (is (addressOf (m .bindings) (code g q) env) m) k′)
     unfolding addressOf
     sim-address p k′ z n s f = located p k′ (bound-finds n (few s) z) s f

@@ -11,7 +11,7 @@ use Rattle.language.specs.Answers.{Stop, limit, error, stop-number, LimitStop, 
 use Rattle.language.specs.Types.{param-names}
 use Rattle.language.specs.Limits.{Limits}
 use Rattle.language.specs.Rules as Rules
-use Rattle.language.specs.Rules.{Val, inZ, inF, inFR, inP, inPR, inA, inB, Env, empty, bound, fresh, State, stop, no-rule, Outcome, ok, halt, nth, Entered, Level, cmds}
+use Rattle.language.specs.Rules.{Returned, Body, an-expr, a-block, Val, inZ, inF, inFR, inP, inPR, inA, inB, Env, empty, bound, fresh, State, stop, no-rule, Outcome, ok, halt, nth, Entered, Level, cmds}
 use Rattle.nodes.specs.declared.Node.{Node}
 use Rattle.nodes.specs.Nodes.{nodeAt}
 use Rattle.nodes.specs.Trees.{Script, next, AtParams, AtE, AtEs, AtA, AtAs, AtCs, AtD, AtS, AtB}
@@ -23,7 +23,7 @@ use Rattle.machine.specs.Entries.{number-tag, function-tag, recursive-fu
 use Rattle.machine.specs.Codes.{codeOver, extended, defined, CodedE, CodedEs, CodedA, CodedAs, CodedCs, CodedD, CodedS, CodedB}
 use Rattle.machine.specs.State.{Run, Tables, Ret, is}
 use Rattle.machine.specs.Machine.{Evaluators, cmdIn}
-use Rattle.machine.specs.Leaves.{Opened}
+use Rattle.machine.specs.Leaves.{Opened, behindType}
 use Rattle.machine.specs.Shown.{boundsOf}
 use Rattle.machine.proofs.Steps.{tail, more, blocks}
 
@@ -81,6 +81,15 @@ pub data Thing : Type 0 where
   value : Val → (tag word : ℕ) → Thing
   names : Env → ℕ → Thing
 
+-- commands that returned nothing, and the environment after them where it is known
+abbrev pub Ran : Returned → (t x : ℕ) → Tables → Type 0
+Ran none t x m = Unit {0}
+Ran (some u) t x m = ⊥
+
+abbrev pub IsDone : ℕ → Returned → (t x : ℕ) → Tables → Type 0
+IsDone env none t x m = x ≡ env
+IsDone env (some u) t x m = ⊥
+
 -- the first c bindings are kept
 abbrev pub Old : List ℕ → ℕ → List ℕ → Type 0
 Old b c b′ = (k : ℕ) → k < c → bindingAt b′ k ≡ bindingAt b k
@@ -137,7 +146,7 @@ module _ (g : Stage) where
         InE (f ∷ extended (param-names xs) (scope ρ)) i e → Rep b c (names ρ (envOf x)) → Rep b c (value (inFR e f (param-names xs) ρ) recursive-function-tag x)
     v-proc : {c x i : ℕ} {xs : List ArgP} {a : Block} {ρ : Env} → AtParams g.script (nodeOf x) xs i → InB (extended (param-names xs) (scope ρ)) i a → Rep b c (names ρ (envOf x)) →
         Rep b c (value (inP a (param-names xs) ρ) procedure-tag x)
-    v-proc-rec : {c x i : ℕ} {f : Name} {xs : List ArgP} {a : Block} {ρ : Env} → AtParams g.script (next g.script (nodeOf x)) xs i →
+    v-proc-rec : {c x i : ℕ} {f : Name} {xs : List ArgP} {a : Block} {ρ : Env} → AtParams g.script (behindType (g.script .tree) (next g.script (nodeOf x))) xs i →
         InB (f ∷ extended (param-names xs) (scope ρ)) i a → Rep b c (names ρ (envOf x)) → Rep b c (value (inPR a f (param-names xs) ρ) recursive-procedure-tag x)
     v-adr : {c a : ℕ} → Rep b c (value (inA a) address-tag a)
     v-block : {c : ℕ} (x : ℕ) → Rep b c (value (inB (firstOf x) (lengthOf x)) block-tag x)
@@ -198,12 +207,17 @@ module _ (g : Stage) where
     pub waits : Below sp (m₁ .counts .bindings) m m₁
     pub fell : m₁ .counts .units ≤ m .counts .units
 
-  -- related outcomes, from m on; P relates what they answer
-  pub data Sim {A : Type 0} (P : A → (t x : ℕ) → Tables → Type 0) (sp : ℕ) (m : Tables) : Outcome A → Ret → Type 0 where
-    goes : {a : A} {s : State} {t x : ℕ} {m₁ : Tables} → P a t x m₁ → R s m₁ → Grow sp m m₁ → Sim P sp m (ok a s) (is (Value t x) m₁)
-    stops : {w : Stop} {p : ℕ} {s : State} {m₁ : Tables} → Plain w → R s m₁ → Sim P sp m (halt (stop w) p s) (is (E.Stop (stop-number w) p) m₁)
-    unset : {p q : ℕ} {s : State} {m₁ : Tables} → R s m₁ → Sim P sp m (halt (stop (error (UNSET q))) p s) (is (E.Unset p q) m₁)
-    no-way : {p : ℕ} {s : State} {m₁ : Tables} → R s m₁ → Sim P sp m (halt no-rule p s) (is NoRule m₁)
+  -- related outcomes, from m on; P relates what they answer, B what they return
+  pub data Sims {A : Type 0} (P B : A → (t x : ℕ) → Tables → Type 0) (sp : ℕ) (m : Tables) : Outcome A → Ret → Type 0 where
+    goes : {a : A} {s : State} {t x : ℕ} {m₁ : Tables} → P a t x m₁ → R s m₁ → Grow sp m m₁ → Sims P B sp m (ok a s) (is (Value t x) m₁)
+    returns : {a : A} {s : State} {t x : ℕ} {m₁ : Tables} → B a t x m₁ → R s m₁ → Grow sp m m₁ → Sims P B sp m (ok a s) (is (E.Returned t x) m₁)
+    stops : {w : Stop} {p : ℕ} {s : State} {m₁ : Tables} → Plain w → R s m₁ → Sims P B sp m (halt (stop w) p s) (is (E.Stop (stop-number w) p) m₁)
+    unset : {p q : ℕ} {s : State} {m₁ : Tables} → R s m₁ → Sims P B sp m (halt (stop (error (UNSET q))) p s) (is (E.Unset p q) m₁)
+    no-way : {p : ℕ} {s : State} {m₁ : Tables} → R s m₁ → Sims P B sp m (halt no-rule p s) (is NoRule m₁)
+
+  -- where nothing is returned
+  abbrev pub Sim : {A : Type 0} → (A → (t x : ℕ) → Tables → Type 0) → (sp : ℕ) → Tables → Outcome A → Ret → Type 0
+  Sim P sp m o r = Sims P (λ a t x m₁. ⊥) sp m o r
 
   -- an answer that took a unit
   pub record Spent {A : Type 0} (m : Tables) (P : A → (t x : ℕ) → Tables → Type 0) (a : A) (t x : ℕ) (m₁ : Tables) : Type 0 where
@@ -218,6 +232,10 @@ module _ (g : Stage) where
   -- what answers are: a value, an environment with the names Γ, the environment that was, waiting values (from top on, behind n others), a body and its environment
   abbrev pub IsVal : Val → (t x : ℕ) → Tables → Type 0
   IsVal u t x m = ValR (m .bindings) (m .counts .bindings) u t x
+
+  abbrev pub IsBack : Returned → (t x : ℕ) → Tables → Type 0
+  IsBack none t x m = ⊥
+  IsBack (some u) t x m = IsVal u t x m
 
   pub record IsEnv (Γ : List Name) (ρ : Env) (t x : ℕ) (m : Tables) : Type 0 where
     pub named : Named ρ x m
@@ -254,6 +272,10 @@ module _ (g : Stage) where
     pub old : Old b c (o .bindings)
     pub kept : Kept r b (o .bindings)
 
+  abbrev pub InBody : List Name → ℕ → Body → Type 0
+  InBody Γ i (an-expr e) = InE Γ i e
+  InBody Γ i (a-block b) = InB Γ i b
+
   -- where evaluation stands: names and state
   pub record Here (ρ : Env) (env : ℕ) (s : State) (m : Tables) : Type 0 where
     pub names′ : Named ρ env m
@@ -266,10 +288,7 @@ module _ (g : Stage) where
     pub onA : {i : ℕ} {a : ExprP} {ρ : Env} {env sp : ℕ} {s : State} {m : Tables} → InA (scope ρ) i a → Here ρ env s m →
         Sim (Spent m IsVal) sp m (l .arg a ρ s) (S .expr env (slot sp) i m)
     pub onC : {i : ℕ} {cs : Cmds} {ρ : Env} {env sp : ℕ} {s : State} {m : Tables} → InCs (scope ρ) i cs → Here ρ env s m →
-        Sim (λ u t x m₁. Unit {0}) sp m (cmds l cs ρ s) (S .block env (slot sp) i m)
-
-abbrev pub IsDone : ℕ → Unit {0} → (t x : ℕ) → Tables → Type 0
-IsDone env u t x m = x ≡ env
+        Sims Ran IsBack sp m (cmds l cs ρ s) (S .block env (slot sp) i m)
 
 module _ (g : Stage) where
   -- commands with d levels left
@@ -277,4 +296,4 @@ module _ (g : Stage) where
     pub onD : {i : ℕ} {c : Def} {ρ : Env} {env sp : ℕ} {s : State} {m : Tables} → InD g (scope ρ) i c → Here g ρ env s m →
         Sim g (Spent g m (IsEnv g (defined c ∷ scope ρ))) sp m (l .def c ρ s) (cmdIn (run-of g) (node g i .kind) d S env (slot sp) (node g i) m)
     pub onS : {i : ℕ} {c : Stat} {ρ : Env} {env sp : ℕ} {s : State} {m : Tables} → InS g (scope ρ) i c → Here g ρ env s m →
-        Sim g (Spent g m (IsDone env)) sp m (l .stat c ρ s) (cmdIn (run-of g) (node g i .kind) d S env (slot sp) (node g i) m)
+        Sims g (Spent g m (IsDone env)) (IsBack g) sp m (l .stat c ρ s) (cmdIn (run-of g) (node g i .kind) d S env (slot sp) (node g i) m)

@@ -6,7 +6,7 @@ use lib.Dec.{eqb, ltb}
 use Rattle.nodes.specs.declared.Node.{Node}
 use Rattle.nodes.specs.Nodes.{nodeAt}
 use Rattle.machine.specs.declared.Ending.{Ending}
-use Rattle.machine.specs.declared.Ending.the-variants.{Value, Stop, Unset, NoRule}
+use Rattle.machine.specs.declared.Ending.the-variants.{Value, Stop, Unset, Returned, NoRule}
 use Rattle.machine.specs.Entries.{pick, number-tag, done-tag, again-tag}
 use Rattle.machine.specs.State.{Run, Tables, Ret, is, onValue, andThen, spend, guard}
 use Rattle.machine.specs.Machine.{Evaluators, onBit, round, rounds}
@@ -18,6 +18,7 @@ unfolding andThen
 value-then (Value t x) m k k′ = refl
 value-then (Stop n p) m k k′ = refl
 value-then (Unset p q) m k k′ = refl
+value-then (Returned t x) m k k′ = refl
 value-then NoRule m k k′ = refl
 
 then-then : (r : Ret) (k k′ : ℕ → ℕ → Tables → Ret) → andThen (andThen r k) k′ ≡ andThen r (λ t x m. andThen (k t x m) k′)

@@ -16,7 +16,7 @@ use Rattle.machine.specs.State.{Tables, Ret, bind, newCells, putOut, pus
 use Rattle.machine.specs.State as M
 use Rattle.machine.proofs.Entries.{row-length, row-beyond, made-small, cell-length, cell-beyond, cell-other, cell-own, cells-length, cells-beyond, cells-before, cells-own, binding-other}
 use Rattle.machine.proofs.Lists.{Filled, early, late, nth-filled, Put, here, there, holding, Stored, one-more, length-put, unit-is}
-use Rattle.machine.proofs.Relation.{Stage, Kept, Old, CellR, c-unset, c-set, R, Grow, plain-limit, Sim, stops, Spent, IsVal}
+use Rattle.machine.proofs.Relation.{Stage, Kept, Old, CellR, c-unset, c-set, R, Grow, plain-limit, Sims, stops, Spent, IsVal}
 use Rattle.machine.proofs.Agree.{kept-then, cell-keep, tag-small, sim-yes, sim-no, sim-within, tighten}
 
 -- a row written among the first n entries
@@ -188,10 +188,10 @@ module _ {g : Stage} where
   abbrev pub spending : {sp : ℕ} (m : Tables) → Grow g sp m (M.spend m)
   spending m = record { more = le-refl _; old = λ k h. refl; waits = λ k s h. refl; fell = omega arith }
 
-  module _ {A : Type 0} {P : A → (t x : ℕ) → Tables → Type 0} where
+  module _ {A : Type 0} {P B : A → (t x : ℕ) → Tables → Type 0} where
     pub sim-guard : (d p : ℕ) {s : State} {sp : ℕ} {m : Tables} {o : Outcome A} (k : Tables → Ret) → R g s m →
-        (R g (take-unit s) (M.spend m) → Sim g P sp (M.spend m) o (k (M.spend m))) →
-        Sim g (Spent g m P) sp m (within (ltb (s .units) (g.limits .fuel)) FUEL p s o) (guard (suc d) p m k)
+        (R g (take-unit s) (M.spend m) → Sims g P B sp (M.spend m) o (k (M.spend m))) →
+        Sims g (Spent g m P) B sp m (within (ltb (s .units) (g.limits .fuel)) FUEL p s o) (guard (suc d) p m k)
     unfolding guard
     sim-guard d p {m = m} k r f =
         sim-within _ _ _ _ (unit-is _ _ _ (r .units)) r λ h.
@@ -199,7 +199,7 @@ module _ {g : Stage} where
         sim-yes _ _ (lt→ltb 0 (suc d) (omega arith)) (tighten (omega arith) (spending m) (f (r-spend r u)))
 
     pub sim-deep : (p : ℕ) {s : State} {sp : ℕ} {m : Tables} (k : Tables → Ret) → R g s m →
-        Sim g P sp m (enter g.limits p s λ s₁. halt (stop (limit DEPTH)) p s₁) (guard zero p m k)
+        Sims g P B sp m (enter g.limits p s λ s₁. halt (stop (limit DEPTH)) p s₁) (guard zero p m k)
     unfolding guard
     sim-deep p k r =
         sim-within _ _ _ _ (unit-is _ _ _ (r .units)) r λ h. sim-no _ _ (λ f. f) (stops (plain-limit DEPTH) (r-spend r (ltb→lt 0 _ (unit-is _ _ _ (r .units) .0 h))))

@@ -11,7 +11,7 @@ use Rattle.language.specs.Syntax.{Block}
 use Rattle.language.specs.Answers.{FUEL, DEPTH, CELLS, BINDINGS, OUTPUT, UNSET, Stop, error, stop-number, Answer, done, stopped}
 use Rattle.language.specs.Typing.{Typable}
 use Rattle.language.specs.Limits.{Limits, Admitted}
-use Rattle.language.specs.Rules.{empty, State, no-rule, Outcome, ok, halt, run, start}
+use Rattle.language.specs.Rules.{empty, State, Returned, bind, ended, no-rule, Outcome, ok, halt, run, start}
 use Rattle.language.specs.Rules as Rules
 use Rattle.language.specs.Outcome.{state-of, end-of, Report, report, report-from}
 use Rattle.language.specs.Claims.{NoRule}
@@ -28,7 +28,7 @@ use Rattle.machine.specs.State.{Tables, Ret}
 use Rattle.machine.specs.Machine.{blockAt}
 use Rattle.machine.specs.Shown.{fresh, program, stopBy, answerOf, shown, toldBy}
 use Rattle.machine.proofs.Codes.{codes-right}
-use Rattle.machine.proofs.Relation.{Stage, Kept, R, Plain, plain-limit, plain-range, plain-zero, plain-size, plain-index, Sim, goes, stops, unset, no-way, e-none, Here}
+use Rattle.machine.proofs.Relation.{Stage, Kept, R, Plain, plain-limit, plain-range, plain-zero, plain-size, plain-index, Sims, goes, returns, stops, unset, no-way, IsBack, Ran, e-none, Here}
 use Rattle.machine.proofs.Agree.{kept-self}
 use Rattle.machine.proofs.Adequate.{adequate}
 
@@ -37,6 +37,7 @@ pub data Known : Ending → Type 0 where
   known-value : {t x : ℕ} → Known (Value t x)
   known-stop : {w : Stop} → Plain w → {p : ℕ} → Known (E.Stop (stop-number w) p)
   known-unset : {p q : ℕ} → Known (E.Unset p q)
+  known-returned : {t x : ℕ} → Known (E.Returned t x)
   known-none : Known E.NoRule
 
 -- r is what the machine comes to from the tables m for the block b
@@ -109,12 +110,16 @@ record Agrees (g : Stage) (o : Outcome (Unit {0})) (t : Ret) : Type 0 where
   known : Known (t .ending)
   state : R g (state-of o) (t .after)
 
-agrees : {g : Stage} {P : Unit {0} → (t x : ℕ) → Tables → Type 0} {sp : ℕ} {m : Tables} {o : Outcome (Unit {0})} {t : Ret} → Sim g P sp m o t → Agrees g o t
-agrees (goes p r h) = record { reports = same-report _ _ refl r; known = known-value; state = r }
-agrees (stops {p = p} w r) =
-    record { reports = same-report _ _ (ap (λ (v : Stop). some (stopped v p)) (sym (stop-back w))) r; known = known-stop w; state = r }
-agrees (unset r) = record { reports = same-report _ _ refl r; known = known-unset; state = r }
-agrees (no-way r) = record { reports = same-report _ _ refl r; known = known-none; state = r }
+agrees : {g : Stage} (p : ℕ) {sp : ℕ} {m : Tables} {o : Outcome Returned} {t : Ret} → Sims g Ran (IsBack g) sp m o t → Agrees g (bind o λ u s. ended u p s) t
+unfolding bind
+agrees p (goes {a = none} v r h) = record { reports = same-report _ _ refl r; known = known-value; state = r }
+agrees p (goes {a = some u} v r h) = absurd v
+agrees p (returns {a = none} v r h) = absurd v
+agrees p (returns {a = some u} v r h) = record { reports = same-report _ _ refl r; known = known-returned; state = r }
+agrees p (stops {p = q} w r) =
+    record { reports = same-report _ _ (ap (λ (v : Stop). some (stopped v q)) (sym (stop-back w))) r; known = known-stop w; state = r }
+agrees p (unset r) = record { reports = same-report _ _ refl r; known = known-unset; state = r }
+agrees p (no-way r) = record { reports = same-report _ _ refl r; known = known-none; state = r }
 
 -- ---- the theorem
 
@@ -150,7 +155,7 @@ block-runs g codes L bindings cells output waiting (at-block k a) w adm hb hc ho
       };
     } in
     let here : Here stage empty 0 start old = record { names′ = e-none; st = begin } in
-    let x = agrees (adequate {g = stage} (L .depth) .onC {sp = 0} (record { at = a; coded = w }) here) in
+    let x = agrees _ (adequate {g = stage} (L .depth) .onC {sp = 0} (record { at = a; coded = w }) here) in
     record {
       reports = x .reports;
       tells = λ c. same-told c _ _ (x .state);
@@ -181,10 +186,11 @@ none-is (ok u s) h = Option·none-ne-some _ (sym h)
 none-is (halt (Rules.stop w) p s) h = Option·none-ne-some _ (sym h)
 none-is (halt no-rule p s) h = tt
 
-an-answer : (e : Ending) → (e ≡ E.NoRule → ⊥) → (a : Answer) × (answerOf e ≡ some a)
+an-answer : (e : Ending) → (answerOf e ≡ none → ⊥) → (a : Answer) × (answerOf e ≡ some a)
 an-answer (Value t x) h = (done, refl)
 an-answer (E.Stop n p) h = (stopped (stopBy n) p, refl)
 an-answer (E.Unset p q) h = (stopped (error (UNSET q)) p, refl)
+an-answer (E.Returned t x) h = absurd (h refl)
 an-answer E.NoRule h = absurd (h refl)
 
 module _ {L : Limits} {b : Block} {m : Tables} {r : Ret} (h : RunsAs L b m r) where
@@ -192,8 +198,16 @@ module _ {L : Limits} {b : Block} {m : Tables} {r : Ret} (h : RunsAs L b m r) wh
   pub ends-as : end-of (run L b) ≡ answerOf (r .ending)
   ends-as = ap (λ (t : Report). t .end) (h .reports)
 
+  -- it has one
+  pub never-lost : Typable b → answerOf (r .ending) ≡ none → ⊥
+  never-lost t e = sound L b t (none-is (run L b) (ends-as ∙ e))
+
   pub never-stuck : Typable b → r .ending ≡ E.NoRule → ⊥
-  never-stuck t e = sound L b t (none-is (run L b) (ends-as ∙ ap answerOf e))
+  never-stuck t e = never-lost t (ap answerOf e)
+
+  -- nor does it return
+  pub never-returns : Typable b → {n x : ℕ} → r .ending ≡ E.Returned n x → ⊥
+  never-returns t e = never-lost t (ap answerOf e)
 
   -- a stop's number is that of the rules' stop
   pub stop-known : {n p : ℕ} → r .ending ≡ E.Stop n p → stop-number (stopBy n) ≡ n
@@ -201,7 +215,7 @@ module _ {L : Limits} {b : Block} {m : Tables} {r : Ret} (h : RunsAs L b m r) wh
 
   -- so it has an answer, and the rules have the same
   pub answered : Typable b → (a : Answer) × (end-of (run L b) ≡ some a) × (answerOf (r .ending) ≡ some a)
-  answered t = let x = an-answer (r .ending) (never-stuck t) in (x .0, ends-as ∙ x .1, x .1)
+  answered t = let x = an-answer (r .ending) (never-lost t) in (x .0, ends-as ∙ x .1, x .1)
 
 -- a table that is cleared as far as it was written to is as if cleared before
 pub kept-zeroed : {n : ℕ} {old now : List ℕ} → Kept n old now → zeroed n now ≡ zeroed n old

@@ -10,7 +10,7 @@ use lib.ListN.{getD}
 use mir.Syntax.{w64}
 use mir.Val.{ofZ}
 use Rattle.language.specs.Bytes.{same-bytes}
-use Rattle.language.specs.Syntax.{Name, at, Expr, num, name, if-expr, and, or, app, abs, alloc, nth-expr, len, vset, Exprs, one-expr, more-exprs, ExprP, val, adr, Cmds, last, def-then, stat-then, Def, const, fun, fun-rec, var, proc, proc-rec, Stat, echo, set, if-stat, while, call, Block, block}
+use Rattle.language.specs.Syntax.{Name, at, Expr, num, name, if-expr, and, or, app, abs, alloc, nth-expr, len, vset, Exprs, one-expr, more-exprs, ExprP, val, adr, Cmds, last, def-then, stat-then, Def, const, fun, fun-rec, fun-block, fun-rec-block, var, proc, proc-rec, Stat, echo, set, if-stat, while, call, return, Block, block}
 use Rattle.language.specs.Names.{Op, Meaning, literal, operator, free, meaning, operator-of, head-operator}
 use Rattle.language.specs.Numbers.{Computed, amount, fails, ranged}
 use Rattle.language.specs.Words.{nameAt}
@@ -63,6 +63,8 @@ abbrev pub defined : Def → Name
 defined (const p (at q x) t e) = x
 defined (fun p (at q x) t ps e) = x
 defined (fun-rec p (at q x) t ps e) = x
+defined (fun-block p (at q x) t ps b) = x
+defined (fun-rec-block p (at q x) t ps b) = x
 defined (var p (at q x) t) = x
 defined (proc p (at q x) ps b) = x
 defined (proc-rec p (at q x) ps b) = x
@@ -112,6 +114,9 @@ module _ (g : Script) (codes : List ℕ) where
     CodedD Γ i (fun p x t ps e) = (j : ℕ) → AtParams g (next g (next g (child g i))) (values ps) j → CodedE (extended (param-names (values ps)) Γ) j e
     CodedD Γ i (fun-rec p (at q x) t ps e) =
         (j : ℕ) → AtParams g (next g (next g (child g i))) (values ps) j → CodedE (x ∷ extended (param-names (values ps)) Γ) j e
+    CodedD Γ i (fun-block p x t ps b) = (j : ℕ) → AtParams g (next g (next g (child g i))) (values ps) j → CodedB (extended (param-names (values ps)) Γ) j b
+    CodedD Γ i (fun-rec-block p (at q x) t ps b) =
+        (j : ℕ) → AtParams g (next g (next g (child g i))) (values ps) j → CodedB (x ∷ extended (param-names (values ps)) Γ) j b
     CodedD Γ i (var p x t) = Unit {0}
     CodedD Γ i (proc p x ps b) = (j : ℕ) → AtParams g (next g (child g i)) ps j → CodedB (extended (param-names ps) Γ) j b
     CodedD Γ i (proc-rec p (at q x) ps b) = (j : ℕ) → AtParams g (next g (child g i)) ps j → CodedB (x ∷ extended (param-names ps) Γ) j b
@@ -122,6 +127,7 @@ module _ (g : Script) (codes : List ℕ) where
     CodedS Γ i (if-stat p e a b) = CodedE Γ (child g i) e × CodedB Γ (next g (child g i)) a × CodedB Γ (next g (next g (child g i))) b
     CodedS Γ i (while p e b) = CodedE Γ (child g i) e × CodedB Γ (next g (child g i)) b
     CodedS Γ i (call p (at q x) as′) = Used Γ (child g i) x × CodedAs Γ (next g (child g i)) as′
+    CodedS Γ i (return p e) = CodedE Γ (child g i) e
 
     pub CodedB : List Name → ℕ → Block → Type 0
     CodedB Γ i (block p cs) = CodedCs Γ (child g i) cs
@@ -155,11 +161,13 @@ module _ (g : Script) where
   -- the names in force behind the node i of kind k: a definition's or a parameter's is one more
   unfoldable pub after : (k i : ℕ) → List Name → List Name
   after k i Γ =
-      pick (ltb k 2) (λ _. Γ) λ _. pick (ltb k 8) (λ _. nameOf (child g i) ∷ Γ) λ _. pick (isParam k) (λ _. nameOf i ∷ Γ) λ _. Γ
+      pick (ltb k 2) (λ _. Γ) λ _. pick (ltb k 8) (λ _. nameOf (child g i) ∷ Γ) λ _. pick (isParam k) (λ _. nameOf i ∷ Γ) λ _.
+      pick (ltb k 32) (λ _. Γ) λ _. nameOf (child g i) ∷ Γ
 
   -- the own name of the node i of kind k, if that is a recursive definition
   unfoldable pub ownOf : (k i : ℕ) → Option Name
-  ownOf k i = pick (eqb k 4) (λ _. some (nameOf (child g i))) λ _. pick (eqb k 7) (λ _. some (nameOf (child g i))) λ _. none
+  ownOf k i = pick (eqb k 4) (λ _. some (nameOf (child g i))) λ _. pick (eqb k 7) (λ _. some (nameOf (child g i))) λ _.
+      pick (eqb k 33) (λ _. some (nameOf (child g i))) λ _. none
 
   -- the names in force at the node i, where Γ are those of its row: the last child of a recursive definition is its body, in which its own name is one more
   unfoldable pub entry : (own : Option Name) → ℕ → List Name → List Name

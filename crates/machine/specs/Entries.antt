@@ -13,7 +13,8 @@ unfoldable pub pick : {A : Type 0} → Bool → (Unit {0} → A) → (Unit {0} �
 pick true a b = a tt
 pick false a b = b tt
 
--- what a value is: a number, a function, a function that knows its own name, a procedure, such a procedure, the address of a cell
+-- what a value is: a number, a function, a function that knows its own name, a procedure or a function whose body is a block, such a one that knows its
+-- own name, the address of a cell
 abbrev pub number-tag : ℕ
 number-tag = 0
 

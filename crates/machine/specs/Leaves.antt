@@ -1,6 +1,6 @@
 -- What the evaluator does without evaluating anything: names, numbers, cells, operators, blocks of cells, and the entry of a call.
 use Prim.Native.Nat.{ℕ, zero, suc, _+_, _-_}
-use mathlib.Core.Bool.{Bool, true, cond}
+use mathlib.Core.Bool.{Bool, true, false, cond}
 use mathlib.Core.List.{List}
 use lib.Dec.{eqb, ltb, leb}
 use lib.IntN.{ℤ, pos, _+ℤ_, _-ℤ_, _*ℤ_}
@@ -139,12 +139,19 @@ setElement p r s t x m =
 unfoldable pub isParam : ℕ → Bool
 isParam k = pick (eqb k 13) (λ _. true) λ _. eqb k 14
 
+unfoldable pub isType : ℕ → Bool
+isType k = pick (eqb k 26) (λ _. true) λ _. pick (ltb k 15) (λ _. false) λ _. ltb k 18
+
 -- environment and bindings after a call's are made
 pub record Opened : Type 0 where
   pub env : ℕ
   pub bindings : List ℕ
 
 module _ (tree : List ℕ) where
+  -- the node q, and where that is a type the node behind it
+  unfoldable pub behindType : ℕ → ℕ
+  behindType q = pick (isType (nodeAt tree q .kind)) (λ _. nodeAt tree q .next) λ _. q
+
   -- the node behind exactly n parameters from q on
   unfoldable pub bodyAfter : (n q : ℕ) → Ending
   bodyAfter zero q = pick (isParam (nodeAt tree q .kind)) (λ _. NoRule) λ _. Value done-tag q
@@ -175,19 +182,19 @@ module _ (g : Run) where
       (bind (suc n) (putBinding (o .bindings) (n + m .counts .bindings) (bindingBehind (o .bindings) t x (o .env))) m))
       λ _. is (Stop 23 p) m
 
-  -- the value t x is applied: only a function can be. Behind a name that a closure knows stand a type and the parameters
+  -- the value t x is called, whose body is a block. Behind a name that a closure knows stand the parameters, and before them a type if it is a function's
+  unfoldable pub openProcedure : (p n sp tag word : ℕ) → Tables → Ret
+  openProcedure p n sp t x m =
+      pick (eqb t procedure-tag) (λ _. enter p n sp (nodeOf x) (envOf x) m) λ _.
+      pick (eqb t recursive-procedure-tag) (λ _. enterAgain p n sp (behindType g.tree (nodeAt g.tree (nodeOf x) .next)) t x m) λ _.
+      is NoRule m
+
+  -- the value t x is applied: its body is an expression, or a block
   unfoldable pub openFunction : (p n sp tag word : ℕ) → Tables → Ret
   openFunction p n sp t x m =
       pick (eqb t function-tag) (λ _. enter p n sp (nodeOf x) (envOf x) m) λ _.
       pick (eqb t recursive-function-tag) (λ _. enterAgain p n sp (nodeAt g.tree (nodeAt g.tree (nodeOf x) .next) .next) t x m) λ _.
-      is NoRule m
-
-  -- the value t x is called: only a procedure can be
-  unfoldable pub openProcedure : (p n sp tag word : ℕ) → Tables → Ret
-  openProcedure p n sp t x m =
-      pick (eqb t procedure-tag) (λ _. enter p n sp (nodeOf x) (envOf x) m) λ _.
-      pick (eqb t recursive-procedure-tag) (λ _. enterAgain p n sp (nodeAt g.tree (nodeOf x) .next) t x m) λ _.
-      is NoRule m
+      openProcedure p n sp t x m
 
   -- the definition at p makes one binding: the answer is the environment after it
   unfoldable pub define : (p tag word env : ℕ) → Tables → Ret

@@ -5,9 +5,9 @@ use mir.Syntax.{w64}
 use mir.Val.{toZ}
 use Rattle.nodes.specs.declared.Node.{Node}
 use Rattle.nodes.specs.Nodes.{nodeAt}
-use Rattle.machine.specs.declared.Ending.the-variants.{Value, Stop, NoRule}
+use Rattle.machine.specs.declared.Ending.the-variants.{Value, Stop, Returned, NoRule}
 use Rattle.machine.specs.Entries.{pick, number-tag, function-tag, recursive-function-tag, procedure-tag, recursive-procedure-tag, done-tag, again-tag, rowAfter, row, closureWord}
-use Rattle.machine.specs.State.{Run, codeAt, Tables, Ret, is, andThen, putOut, push, guard}
+use Rattle.machine.specs.State.{Run, codeAt, Tables, Ret, is, andThen, caught, putOut, push, guard}
 use Rattle.machine.specs.Leaves.{boundTo, addressOf, nameValue, negated, combined, stored, elementValue, lengthValue, setElement, openFunction, openProcedure, define, defineCell, allocate}
 
 -- expressions (and addresses) and blocks with some levels left: under an environment, with values waiting below sp, at a node
@@ -61,13 +61,20 @@ module _ (g : Run) where
       pick (eqb k 0) (λ _. is (combined o (n .place) (row t x) (row u y)) m₂) λ _.
       andThen (allArgs S env sp k m₂) λ _ _ m₃. is NoRule m₃
 
+  -- a function's body, at the node i: an expression, or a block that returns
+  unfoldable pub bodyE : Evaluators → (env sp i : ℕ) → Tables → Ret
+  bodyE S env sp i m =
+      pick (eqb (nodeAt g.tree i .kind) 1) (λ _.
+      let r = S .block env sp (nodeAt g.tree i .child) m in is (caught (r .ending)) (r .after))
+      λ _. S .expr env sp i m
+
   -- a function applied: head, arguments, bindings, body
   unfoldable pub callE : Evaluators → (env sp : ℕ) → Node → Tables → Ret
   callE S env sp n m =
       andThen (S .expr env sp (n .child) m) λ t x m₁.
       andThen (allArgs S env sp (nodeAt g.tree (n .child) .next) m₁) λ _ k m₂.
       andThen (openFunction g (n .place) k sp t x m₂) λ env₁ i m₃.
-      S .expr env₁ sp i m₃
+      bodyE S env₁ sp i m₃
 
   -- an application, by what its head is among the nine names
   unfoldable pub applyE : (o : ℕ) → Evaluators → (env sp : ℕ) → Node → Tables → Ret
@@ -111,7 +118,7 @@ module _ (g : Run) where
       pick (eqb k 30) (λ _. vsetE S env sp n m) λ _.
       is NoRule m
 
-  -- ---- commands: the answer is the environment after them
+  -- ---- commands: the answer is the environment after them, unless a RETURN ends them
 
   unfoldable pub constC : Evaluators → (env sp : ℕ) → Node → Tables → Ret
   constC S env sp n m =
@@ -130,6 +137,9 @@ module _ (g : Run) where
       andThen (is (addressOf (m .bindings) (codeAt g (n .child)) env) m) λ _ a m.
       andThen (S .expr env sp (nodeAt g.tree (n .child) .next) m) λ t x m₁.
       stored a t x (Value done-tag env) m₁
+
+  unfoldable pub returnC : Evaluators → (env sp : ℕ) → Node → Tables → Ret
+  returnC S env sp n m = andThen (S .expr env sp (n .child) m) λ t x m₁. is (Returned t x) m₁
 
   -- a block within a command leaves the environment as it was
   unfoldable pub blockC : Evaluators → (env within sp i : ℕ) → Tables → Ret
@@ -176,6 +186,9 @@ module _ (g : Run) where
       pick (eqb k 9) (λ _. setC S env sp n m) λ _.
       pick (eqb k 10) (λ _. ifC S env sp n m) λ _.
       pick (eqb k 12) (λ _. callC S env sp n m) λ _.
+      pick (eqb k 31) (λ _. returnC S env sp n m) λ _.
+      pick (eqb k 32) (λ _. define g (n .place) procedure-tag (closureWord (nodeAt g.tree (x .next) .next) env) env m) λ _.
+      pick (eqb k 33) (λ _. define g (n .place) recursive-procedure-tag (closureWord (n .child) env) env m) λ _.
       is NoRule m
 
   -- a command of kind k with d levels left: each round of a WHILE is entered, any other command is entered once
@@ -263,6 +276,9 @@ module _ (g : Run) where
   abbrev pub vsetAt : (d env sp : ℕ) → Node → Tables → Ret
   vsetAt d env sp n m = vsetE (level d) env sp n m
 
+  abbrev pub bodyAt : (d env sp i : ℕ) → Tables → Ret
+  bodyAt d env sp i m = bodyE (level d) env sp i m
+
   abbrev pub constAt : (d env sp : ℕ) → Node → Tables → Ret
   constAt d env sp n m = constC (level d) env sp n m
 
@@ -271,6 +287,9 @@ module _ (g : Run) where
 
   abbrev pub setAt : (d env sp : ℕ) → Node → Tables → Ret
   setAt d env sp n m = setC (level d) env sp n m
+
+  abbrev pub returnAt : (d env sp : ℕ) → Node → Tables → Ret
+  returnAt d env sp n m = returnC (level d) env sp n m
 
   abbrev pub ifStatAt : (d env sp : ℕ) → Node → Tables → Ret
   ifStatAt d env sp n m = ifC (level d) env sp n m

@@ -12,7 +12,7 @@ use Rattle.language.specs.Promises.{Told}
 use Rattle.nodes.specs.Nodes.{nodeAt}
 use Rattle.machine.specs.declared.Bounds.{Bounds}
 use Rattle.machine.specs.declared.Ending.{Ending}
-use Rattle.machine.specs.declared.Ending.the-variants.{Value, Unset, NoRule}
+use Rattle.machine.specs.declared.Ending.the-variants.{Value, Unset, Returned, NoRule}
 use Rattle.machine.specs.declared.Ending.the-variants as E
 use Rattle.machine.specs.Entries.{pick}
 use Rattle.machine.specs.State.{running, Tables, tables, Ret}
@@ -42,10 +42,12 @@ stopBy n =
     pick (eqb n 28) (λ _. error SIZE) λ _.
     error INDEX
 
+-- no rule fits a program that returns
 abbrev pub answerOf : Ending → Option Answer
 answerOf (Value t x) = some done
 answerOf (E.Stop n p) = some (stopped (stopBy n) p)
 answerOf (Unset p q) = some (stopped (error (UNSET q)) p)
+answerOf (Returned t x) = none
 answerOf NoRule = none
 
 -- with so much fuel at the start

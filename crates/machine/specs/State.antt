@@ -8,7 +8,7 @@ use Rattle.machine.specs.declared.Counts.{Counts}
 use Rattle.machine.specs.declared.Bounds.{Bounds}
 use Rattle.machine.specs.declared.Evaluated.{Evaluated}
 use Rattle.machine.specs.declared.Ending.{Ending}
-use Rattle.machine.specs.declared.Ending.the-variants.{Value, Stop, Unset, NoRule}
+use Rattle.machine.specs.declared.Ending.the-variants.{Value, Stop, Unset, Returned, NoRule}
 use Rattle.machine.specs.Entries.{pick, unset-tag, putRow, cell, cellAt, putCell, putCells}
 
 -- what a run does not change: the tree words, the nodes' codes, and how many bindings, cells and numbers there may be
@@ -51,12 +51,14 @@ abbrev pub valued : Ending → ℕ
 valued (Value t x) = 1
 valued (Stop n p) = 0
 valued (Unset p q) = 0
+valued (Returned t x) = 0
 valued NoRule = 0
 
 abbrev pub onValue : Ending → Tables → (ℕ → ℕ → Tables → Ret) → Ret
 onValue (Value t x) m k = k t x m
 onValue (Stop n p) m k = is (Stop n p) m
 onValue (Unset p q) m k = is (Unset p q) m
+onValue (Returned t x) m k = is (Returned t x) m
 onValue NoRule m k = is NoRule m
 
 -- r, and where it is a value what follows
@@ -68,7 +70,16 @@ abbrev pub ifValue : Ending → (ℕ → ℕ → Ending) → Ending
 ifValue (Value t x) k = k t x
 ifValue (Stop n p) k = Stop n p
 ifValue (Unset p q) k = Unset p q
+ifValue (Returned t x) k = Returned t x
 ifValue NoRule k = NoRule
+
+-- what a function's block returned is its value; no rule fits a block that returned nothing
+abbrev pub caught : Ending → Ending
+caught (Value t x) = NoRule
+caught (Stop n p) = Stop n p
+caught (Unset p q) = Unset p q
+caught (Returned t x) = Value t x
+caught NoRule = NoRule
 
 -- ---- the state's changes
 

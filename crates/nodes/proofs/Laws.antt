@@ -4,7 +4,7 @@ use mathlib.Core.Path.{_≡_, refl}
 use mathlib.Core.List.{List}
 use Rattle.language.specs.Syntax.{TypeTree, TypeTrees, ArgP, Expr, Exprs, ExprP, Cmds, Def, Stat}
 use Rattle.language.specs.Places.{place-expr, place-arg, place-param, place-def, place-stat}
-use Rattle.nodes.specs.Trees.{Script, place, child, AtType, at-bool, at-int, at-arrow, at-vec, AtTypes, at-one-type, at-more-types, AtParam, at-val-param, at-var-param, AtParams, at-no-param, at-more-params, AtE, at-num, at-name, at-if, at-and, at-or, at-app, at-abs, at-alloc, at-nth, at-len, at-vset, AtEs, at-one-expr, at-more-exprs, AtA, at-val, at-adr, AtCs, at-last, at-def-then, at-stat-then, AtD, at-const, at-fun, at-fun-rec, at-var, at-proc, at-proc-rec, AtS, at-echo, at-set, at-if-stat, at-while, at-call}
+use Rattle.nodes.specs.Trees.{Script, place, child, AtType, at-bool, at-int, at-arrow, at-vec, AtTypes, at-one-type, at-more-types, AtParam, at-val-param, at-var-param, AtParams, at-no-param, at-more-params, AtE, at-num, at-name, at-if, at-and, at-or, at-app, at-abs, at-alloc, at-nth, at-len, at-vset, AtEs, at-one-expr, at-more-exprs, AtA, at-val, at-adr, AtCs, at-last, at-def-then, at-stat-then, AtD, at-const, at-fun, at-fun-rec, at-fun-block, at-fun-rec-block, at-var, at-proc, at-proc-rec, AtS, at-echo, at-set, at-if-stat, at-while, at-call, at-return}
 
 module _ {g : Script} where
   pub type-there : {i : ℕ} {t : TypeTree} → AtType g i t → i ≡ 0 → ⊥
@@ -56,6 +56,8 @@ module _ {g : Script} where
   def-there (at-const k x t e z) = k .there
   def-there (at-fun k x t ps e z) = k .there
   def-there (at-fun-rec k x t ps e z) = k .there
+  def-there (at-fun-block k x t ps y b z) = k .there
+  def-there (at-fun-rec-block k x t ps y b z) = k .there
   def-there (at-var k x t z) = k .there
   def-there (at-proc k x ps y b z) = k .there
   def-there (at-proc-rec k x ps y b z) = k .there
@@ -66,6 +68,7 @@ module _ {g : Script} where
   stat-there (at-if-stat k e y a w b z) = k .there
   stat-there (at-while k e y b z) = k .there
   stat-there (at-call k x as′) = k .there
+  stat-there (at-return k e z) = k .there
 
   pub cmds-there : {i : ℕ} {cs : Cmds} → AtCs g i cs → i ≡ 0 → ⊥
   cmds-there (at-last a z) = stat-there a
@@ -97,6 +100,8 @@ module _ {g : Script} where
   def-place (at-const k x t e z) = refl
   def-place (at-fun k x t ps e z) = refl
   def-place (at-fun-rec k x t ps e z) = refl
+  def-place (at-fun-block k x t ps y b z) = refl
+  def-place (at-fun-rec-block k x t ps y b z) = refl
   def-place (at-var k x t z) = refl
   def-place (at-proc k x ps y b z) = refl
   def-place (at-proc-rec k x ps y b z) = refl
@@ -107,3 +112,4 @@ module _ {g : Script} where
   stat-place (at-if-stat k e y a w b z) = refl
   stat-place (at-while k e y b z) = refl
   stat-place (at-call k x as′) = refl
+  stat-place (at-return k e z) = refl

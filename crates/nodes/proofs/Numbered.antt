@@ -1,7 +1,7 @@
 -- The tree at a node whose number is known: what is laid from n on is the tree at node n.
 use Prim.Native.Nat.{ℕ}
 use mathlib.Core.Path.{_≡_, subst}
-use Rattle.language.specs.Syntax.{TypeTree, bool, int, arrow, vec, ArgP, val-arg, var-arg, Expr, num, name, if-expr, and, or, app, abs, alloc, nth-expr, len, vset, ExprP, val, adr, Cmds, last, def-then, stat-then, Def, const, fun, fun-rec, var, proc, proc-rec, Stat, echo, set, if-stat, while, call, Block, block}
+use Rattle.language.specs.Syntax.{TypeTree, bool, int, arrow, vec, ArgP, val-arg, var-arg, Expr, num, name, if-expr, and, or, app, abs, alloc, nth-expr, len, vset, ExprP, val, adr, Cmds, last, def-then, stat-then, Def, const, fun, fun-rec, fun-block, fun-rec-block, var, proc, proc-rec, Stat, echo, set, if-stat, while, call, return, Block, block}
 use Rattle.language.specs.Table.{Forest, none, shapeType, shapeArgP, shapeExpr, shapeExprP, shapeCmds, shapeDef, shapeStat, shapeBlock}
 use Rattle.language.proofs.reading.Standing.{Stands, inArgP, inExpr, inExprP, inCmds, inDef, inStat, inBlock}
 use Rattle.nodes.specs.Forests.{Laid}
@@ -47,6 +47,8 @@ unfolding shapeCmds
 filled-def (const p x t e) s = tt
 filled-def (fun p x t ps e) s = tt
 filled-def (fun-rec p x t ps e) s = tt
+filled-def (fun-block p x t ps b) s = tt
+filled-def (fun-rec-block p x t ps b) s = tt
 filled-def (var p x t) s = tt
 filled-def (proc p x ps b) s = tt
 filled-def (proc-rec p x ps b) s = tt
@@ -58,6 +60,7 @@ filled-stat (set p x e) s = tt
 filled-stat (if-stat p e a b) s = tt
 filled-stat (while p e b) s = tt
 filled-stat (call p x as′) s = tt
+filled-stat (return p e) s = tt
 
 pub filled-cmds : (cs : Cmds) (s : Forest) → Filled (shapeCmds cs s)
 unfolding shapeCmds

@@ -41,10 +41,10 @@ block-at-root g (block p cs) (laid-fork x a z) s =
     let h = at-cmds g cs _ (leads g (shapeCmds cs none) (0 + 1) a (λ e. omega arith)) s in
     rw (← x .place-is) (at-block (x .kind-is) (subst (λ j. AtCs g j cs) (sym (x .child-is)) h))
 
-kind-between : (k : ℕ) → isKind k ≡ true → (1 ≤ k) × (k ≤ 30)
-kind-between k = go (leb 1 k) (leb k 30) (leb→le 1 k) (leb→le k 30)
+kind-between : (k : ℕ) → isKind k ≡ true → (1 ≤ k) × (k ≤ 33)
+kind-between k = go (leb 1 k) (leb k 33) (leb→le 1 k) (leb→le k 33)
   where
-    go : (t u : Bool) → (T t → 1 ≤ k) → (T u → k ≤ 30) → t && u ≡ true → (1 ≤ k) × (k ≤ 30)
+    go : (t u : Bool) → (T t → 1 ≤ k) → (T u → k ≤ 33) → t && u ≡ true → (1 ≤ k) × (k ≤ 33)
     go true true a b h = (a tt, b tt)
     go true false a b h = absurd (subst (λ t. T t) (sym h) tt)
     go false u a b h = absurd (subst (λ t. T t) (sym h) tt)
@@ -75,8 +75,8 @@ module _ {g : Script} {b : Block} (h : ReadAs g b) where
   node-linked i l =
       subst (λ n. Linked g.tree n i) (omega arith) (linked g.tree (shapeBlock b none) 0 i laid-program is-proper (omega arith) (omega arith))
 
-  -- Its kind is one of document 01's, or of request 5's.
-  pub kind-known : (i : ℕ) → i < nodes-of b → (1 ≤ kind g i) × (kind g i ≤ 30)
+  -- Its kind is one of document 01's, or of requests 5 and 8.
+  pub kind-known : (i : ℕ) → i < nodes-of b → (1 ≤ kind g i) × (kind g i ≤ 33)
   kind-known i l = kind-between (kind g i) (node-linked i l .known)
 
   -- Behind the nodes there are zeros.

@@ -1,4 +1,4 @@
--- Every node of a tree that the grammar reads has a kind from 1 to 30, the place of one of its words, and children where it is no leaf.
+-- Every node of a tree that the grammar reads has a kind from 1 to 33, the place of one of its words, and children where it is no leaf.
 use Prim.Native.Nat.{ℕ, _<_}
 use mathlib.Core.Path.{_≡_, refl}
 use mathlib.Core.Bool.{Bool, true, _&&_}
@@ -7,12 +7,12 @@ use lib.Dec.{leb}
 use Rattle.language.specs.Syntax.{Ident, Block}
 use Rattle.language.specs.Places.{place-ident}
 use Rattle.language.specs.Words.{Word, place-word}
-use Rattle.language.specs.Grammar.{Sort, BLOCK, CMDS, DEF, STAT, TYPE, TYPES, ARG, ARGS, ARGP, ARGSP, EXPR, EXPRS, EXPRP, EXPRSP, TreeOf, Reads, r-block, r-last, r-def-then, r-stat-then, r-const, r-fun, r-fun-rec, r-var, r-proc, r-proc-rec, r-bool, r-int, r-arrow, r-vec, r-one-type, r-more-types, r-arg, r-one-arg, r-more-args, r-val-arg, r-var-arg, r-one-argp, r-more-argsp, r-echo, r-set, r-if-stat, r-while, r-call, r-one-exprp, r-more-exprsp, r-val, r-adr, r-num, r-name, r-if-expr, r-and, r-or, r-app, r-abs, r-alloc, r-nth, r-len, r-vset, r-one-expr, r-more-exprs}
+use Rattle.language.specs.Grammar.{Sort, BLOCK, CMDS, DEF, STAT, TYPE, TYPES, ARG, ARGS, ARGP, ARGSP, EXPR, EXPRS, EXPRP, EXPRSP, TreeOf, Reads, r-block, r-last, r-def-then, r-stat-then, r-return, r-const, r-fun, r-fun-rec, r-fun-block, r-fun-rec-block, r-var, r-proc, r-proc-rec, r-bool, r-int, r-arrow, r-vec, r-one-type, r-more-types, r-arg, r-one-arg, r-more-args, r-val-arg, r-var-arg, r-one-argp, r-more-argsp, r-echo, r-set, r-if-stat, r-while, r-call, r-one-exprp, r-more-exprsp, r-val, r-adr, r-num, r-name, r-if-expr, r-and, r-or, r-app, r-abs, r-alloc, r-nth, r-len, r-vset, r-one-expr, r-more-exprs}
 use Rattle.language.specs.Table.{Forest, none, leaf, fork, ident, shapeType, shapeTypes, shapeArg, shapeArgs, shapeArgP, shapeArgsP, shapeExpr, shapeExprs, shapeExprP, shapeExprsP, shapeCmds, shapeDef, shapeStat, shapeBlock}
 use Rattle.language.proofs.reading.Payload.{All}
 
 abbrev pub isKind : ℕ → Bool
-isKind k = leb 1 k && leb k 30
+isKind k = leb 1 k && leb k 33
 
 -- it has a node
 abbrev pub Filled : Forest → Type 0
@@ -71,6 +71,7 @@ adds (r-block {p} h) a = let u = adds h (a .1) in (adds-fork 1 p (refl, a .0) (u
 adds (r-last h) a = adds h a
 adds (r-def-then h k) a = let u = adds h a in let v = adds k (u .1 .1) in (adds-both (u .0) (v .0), v .1)
 adds (r-stat-then h k) a = let u = adds h a in let v = adds k (u .1 .1) in (adds-both (u .0) (v .0), v .1)
+adds (r-return {p} h) a = let u = adds h (a .1) in (adds-fork 31 p (refl, a .0) (u .0), u .1)
 adds (r-const {p} {x} h k) a =
     let u = adds h (a .1 .1) in let v = adds k (u .1) in
     (adds-fork 2 p (refl, a .0) (adds-both (adds-name x (a .1 .0)) (adds-both (u .0) (v .0))), v .1)
@@ -80,6 +81,12 @@ adds (r-fun {p} {x = x} h k l) a =
 adds (r-fun-rec {p} {x = x} h k l) a =
     let u = adds h (a .1 .1 .1) in let v = adds k (u .1 .1) in let w = adds l (v .1 .1) in
     (adds-fork 4 p (refl, a .0) (adds-both (adds-name x (a .1 .1 .0)) (adds-both (u .0) (adds-both (v .0) (w .0)))), w .1)
+adds (r-fun-block {p} {x = x} h k l) a =
+    let u = adds h (a .1 .1) in let v = adds k (u .1 .1) in let w = adds l (v .1 .1) in
+    (adds-fork 32 p (refl, a .0) (adds-both (adds-name x (a .1 .0)) (adds-both (u .0) (adds-both (v .0) (w .0)))), w .1)
+adds (r-fun-rec-block {p} {x = x} h k l) a =
+    let u = adds h (a .1 .1 .1) in let v = adds k (u .1 .1) in let w = adds l (v .1 .1) in
+    (adds-fork 33 p (refl, a .0) (adds-both (adds-name x (a .1 .1 .0)) (adds-both (u .0) (adds-both (v .0) (w .0)))), w .1)
 adds (r-var {p} {x} h) a = let u = adds h (a .1 .1) in (adds-fork 5 p (refl, a .0) (adds-both (adds-name x (a .1 .0)) (u .0)), u .1)
 adds (r-proc {p} {x = x} h k) a =
     let u = adds h (a .1 .1 .1) in let v = adds k (u .1 .1) in

@@ -3,7 +3,7 @@ use Prim.Native.Nat.{ℕ, _+_, _<_}
 use mathlib.Core.Path.{_≡_, refl, sym, ap, subst}
 use mathlib.Core.List.{List, [], _∷_}
 use native.Mathlib.Omega.{arith}
-use Rattle.language.specs.Syntax.{Ident, at, TypeTree, bool, int, arrow, vec, TypeTrees, one-type, more-types, Arg, arg, ArgP, val-arg, var-arg, Expr, num, name, if-expr, and, or, app, abs, alloc, nth-expr, len, vset, Exprs, one-expr, more-exprs, ExprP, val, adr, Cmds, last, def-then, stat-then, Def, const, fun, fun-rec, var, proc, proc-rec, Stat, echo, set, if-stat, while, call, Block, block}
+use Rattle.language.specs.Syntax.{Ident, at, TypeTree, bool, int, arrow, vec, TypeTrees, one-type, more-types, Arg, arg, ArgP, val-arg, var-arg, Expr, num, name, if-expr, and, or, app, abs, alloc, nth-expr, len, vset, Exprs, one-expr, more-exprs, ExprP, val, adr, Cmds, last, def-then, stat-then, Def, const, fun, fun-rec, fun-block, fun-rec-block, var, proc, proc-rec, Stat, echo, set, if-stat, while, call, return, Block, block}
 use Rattle.language.specs.Places.{place-ident}
 use Rattle.language.specs.Words.{Word, named}
 use Rattle.language.specs.Types.{values}
@@ -11,7 +11,7 @@ use Rattle.language.specs.Table.{Forest, none, leaf, fork, size, first, ident, 
 use Rattle.language.proofs.reading.Standing.{Stands, inArg, inArgs, inArgP, inArgsP, inExpr, inExprs, inExprP, inExprsP, inCmds, inDef, inStat, inBlock}
 use Rattle.language.proofs.reading.Payload.{name-stands}
 use Rattle.nodes.specs.Forests.{Laid, laid-leaf, laid-fork}
-use Rattle.nodes.specs.Trees.{Script, kind, place, child, next, Inner, Leaf, AtType, at-bool, at-int, at-arrow, at-vec, AtTypes, at-one-type, at-more-types, AtParam, at-val-param, at-var-param, AtParams, at-no-param, at-more-params, AtE, at-num, at-name, at-if, at-and, at-or, at-app, at-abs, at-alloc, at-nth, at-len, at-vset, AtEs, at-one-expr, at-more-exprs, AtA, at-val, at-adr, AtAs, at-no-arg, at-more-args, AtCs, at-last, at-def-then, at-stat-then, AtD, at-const, at-fun, at-fun-rec, at-var, at-proc, at-proc-rec, AtS, at-echo, at-set, at-if-stat, at-while, at-call, AtB, at-block}
+use Rattle.nodes.specs.Trees.{Script, kind, place, child, next, Inner, Leaf, AtType, at-bool, at-int, at-arrow, at-vec, AtTypes, at-one-type, at-more-types, AtParam, at-val-param, at-var-param, AtParams, at-no-param, at-more-params, AtE, at-num, at-name, at-if, at-and, at-or, at-app, at-abs, at-alloc, at-nth, at-len, at-vset, AtEs, at-one-expr, at-more-exprs, AtA, at-val, at-adr, AtAs, at-no-arg, at-more-args, AtCs, at-last, at-def-then, at-stat-then, AtD, at-const, at-fun, at-fun-rec, at-fun-block, at-fun-rec-block, at-var, at-proc, at-proc-rec, AtS, at-echo, at-set, at-if-stat, at-while, at-call, at-return, AtB, at-block}
 use Rattle.nodes.specs.Trees as T
 use Rattle.nodes.proofs.Written.{number-stands, numeral-stands}
 
@@ -192,6 +192,12 @@ module _ (g : Script) where
               (at-fun-rec (h .0) (h .2 .0) (at-type t _ _ j) (r .1) (at-expr e _ _ (r .2) (s .2)) (rest-expr e _ _ (r .2))),
           h .3,
         )
+    at-def (fun-block p x t ps b) i f h s =
+        let j = h .2 .2 in let r = at-args ps _ _ (rest-type t _ _ j) (s .1) (λ j. block-no-param b j none) in let q = at-inner b _ none (r .2) (s .2) in
+        (rw (ident-is x (child g i) (h .2 .1) (s .0), ← h .1) (at-fun-block (h .0) (h .2 .0) (at-type t _ _ j) (r .1) (q .0) (q .1) (q .2)), h .3)
+    at-def (fun-rec-block p x t ps b) i f h s =
+        let j = h .2 .2 in let r = at-args ps _ _ (rest-type t _ _ j) (s .1) (λ j. block-no-param b j none) in let q = at-inner b _ none (r .2) (s .2) in
+        (rw (ident-is x (child g i) (h .2 .1) (s .0), ← h .1) (at-fun-rec-block (h .0) (h .2 .0) (at-type t _ _ j) (r .1) (q .0) (q .1) (q .2)), h .3)
     at-def (var p x t) i f h s =
         let j = h .2 .2 in (rw (ident-is x (child g i) (h .2 .1) s, ← h .1) (at-var (h .0) (h .2 .0) (at-type t _ _ j) (rest-type t _ _ j)), h .3)
     at-def (proc p x ps b) i f h s =
@@ -213,6 +219,7 @@ module _ (g : Script) where
         (rw (← h .1) (at-while (h .0) (at-expr e _ _ (h .2) (s .0)) (q .0) (q .1) (q .2)), h .3)
     at-stat (call p x as′) i f h s =
         (rw (ident-is x (child g i) (h .2 .1) (s .0), ← h .1) (at-call (h .0) (h .2 .0) (at-arguments as′ _ (h .2 .2) (s .1))), h .3)
+    at-stat (return p e) i f h s = (rw (← h .1) (at-return (h .0) (at-expr e _ _ (h .2) s) (rest-expr e _ _ (h .2))), h .3)
 
     pub at-inner : (b : Block) (i : ℕ) (f : Forest) → Leads i (shapeBlock b f) → inBlock b (Stands g.text) → (i ≡ 0 → ⊥) × AtB g i b × Leads (next g i) f
     at-inner (block p cs) i f h s = (h .0 .there, rw (← h .1) (at-block (h .0 .kind-is) (at-cmds cs _ (h .2) s)), h .3)

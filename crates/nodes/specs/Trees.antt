@@ -5,7 +5,7 @@ use Prim.Native.Nat.{ℕ, suc, _≤_}
 use mathlib.Core.Path.{_≡_}
 use mathlib.Core.List.{List, [], _∷_}
 use lib.ListN.{length, getD}
-use Rattle.language.specs.Syntax.{Ident, at, TypeTree, bool, int, arrow, vec, TypeTrees, one-type, more-types, Arg, ArgP, val-arg, var-arg, Expr, num, name, if-expr, and, or, app, abs, alloc, nth-expr, len, vset, Exprs, one-expr, more-exprs, ExprP, val, adr, Cmds, last, def-then, stat-then, Def, const, fun, fun-rec, var, proc, proc-rec, Stat, echo, set, if-stat, while, call, Block, block}
+use Rattle.language.specs.Syntax.{Ident, at, TypeTree, bool, int, arrow, vec, TypeTrees, one-type, more-types, Arg, ArgP, val-arg, var-arg, Expr, num, name, if-expr, and, or, app, abs, alloc, nth-expr, len, vset, Exprs, one-expr, more-exprs, ExprP, val, adr, Cmds, last, def-then, stat-then, Def, const, fun, fun-rec, fun-block, fun-rec-block, var, proc, proc-rec, Stat, echo, set, if-stat, while, call, return, Block, block}
 use Rattle.language.specs.Answers.{fine}
 use Rattle.language.specs.Words.{nameAt}
 use Rattle.language.specs.Reading.{Reading}
@@ -117,6 +117,10 @@ module _ (g : Script) where
           AtParams (next (next (child i))) (values ps) j → AtE j e → next j ≡ 0 → AtD i (fun (place i) (ident (child i)) t ps e)
       at-fun-rec : {i j : ℕ} {t : TypeTree} {ps : List Arg} {e : Expr} → Inner i 4 → Leaf (child i) 19 → AtType (next (child i)) t →
           AtParams (next (next (child i))) (values ps) j → AtE j e → next j ≡ 0 → AtD i (fun-rec (place i) (ident (child i)) t ps e)
+      at-fun-block : {i j : ℕ} {t : TypeTree} {ps : List Arg} {b : Block} → Inner i 32 → Leaf (child i) 19 → AtType (next (child i)) t →
+          AtParams (next (next (child i))) (values ps) j → (j ≡ 0 → ⊥) → AtB j b → next j ≡ 0 → AtD i (fun-block (place i) (ident (child i)) t ps b)
+      at-fun-rec-block : {i j : ℕ} {t : TypeTree} {ps : List Arg} {b : Block} → Inner i 33 → Leaf (child i) 19 → AtType (next (child i)) t →
+          AtParams (next (next (child i))) (values ps) j → (j ≡ 0 → ⊥) → AtB j b → next j ≡ 0 → AtD i (fun-rec-block (place i) (ident (child i)) t ps b)
       at-var : {i : ℕ} {t : TypeTree} → Inner i 5 → Leaf (child i) 19 → AtType (next (child i)) t → next (next (child i)) ≡ 0 →
           AtD i (var (place i) (ident (child i)) t)
       at-proc : {i j : ℕ} {ps : List ArgP} {b : Block} → Inner i 6 → Leaf (child i) 19 → AtParams (next (child i)) ps j →
@@ -135,6 +139,7 @@ module _ (g : Script) where
       at-while : {i : ℕ} {e : Expr} {b : Block} → Inner i 11 → AtE (child i) e → (next (child i) ≡ 0 → ⊥) → AtB (next (child i)) b → next (next (child i)) ≡ 0 →
           AtS i (while (place i) e b)
       at-call : {i : ℕ} {as′ : List ExprP} → Inner i 12 → Leaf (child i) 19 → AtAs (next (child i)) as′ → AtS i (call (place i) (ident (child i)) as′)
+      at-return : {i : ℕ} {e : Expr} → Inner i 31 → AtE (child i) e → next (child i) ≡ 0 → AtS i (return (place i) e)
 
     -- BLOCK
     pub data AtB : ℕ → Block → Type 0 where
