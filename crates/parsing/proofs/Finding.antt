@@ -26,13 +26,13 @@ module _ (rules : List ℕ) (k i to : ℕ) where
     here : left rules k i to ≡ found k (getD rules i 0 ∷ take (to - suc i) (drop (suc i) rules))
     here = let e : to - i ≡ suc (to - suc i) = omega arith in rw (e, drop-cons rules i 0 inside) refl
 
-    pub it-is : k ≡ getD rules i 0 / 16777216 → left rules k i to ≡ getD rules i 0 % 16777216
+    pub it-is : k ≡ getD rules i 0 / 33554432 → left rules k i to ≡ getD rules i 0 % 33554432
     unfolding found
-    it-is e = here ∙ rw (eq-eqb k (getD rules i 0 / 16777216) e) refl
+    it-is e = here ∙ rw (eq-eqb k (getD rules i 0 / 33554432) e) refl
 
-    pub it-is-not : (k ≡ getD rules i 0 / 16777216 → ⊥) → left rules k i to ≡ left rules k (i + 1) to
+    pub it-is-not : (k ≡ getD rules i 0 / 33554432 → ⊥) → left rules k i to ≡ left rules k (i + 1) to
     unfolding found
-    it-is-not e = here ∙ rw (ne-eqb k (getD rules i 0 / 16777216) e, add-one i) refl
+    it-is-not e = here ∙ rw (ne-eqb k (getD rules i 0 / 33554432) e, add-one i) refl
 
 -- a symbol that is none has no rules
 pub no-symbol : (rules starts : List ℕ) (w x : ℕ) → length starts ≤ sym-in w + 1 → rule-in rules starts w x ≡ 0

@@ -3,11 +3,11 @@ use mathlib.Core.List.{List, [], _∷_, _++_, map}
 use mathlib.Core.Option.{Option, none, some}
 use Prim.Native.Nat.{ℕ, _+_, _*_}
 use lib.ListN.{length}
-use Rattle.language.proofs.reading.Machine.{cal, lev, Sym, Act, skip, leaf, fork, turn, Push, kid, deep, same, body, back, call, Rule, rule}
+use Rattle.language.proofs.reading.Machine.{cal, lev, Sym, Act, skip, leaf, fork, turn, lead, Push, kid, deep, same, body, back, call, Rule, rule}
 use Rattle.language.proofs.reading.Machine.{rules, pick, Entry, ent}
 use Rattle.language.proofs.reading.Machine.{sBlock, sBody, sTail, sSemi, sCN, sCT, sExpr, sFunH, sFN, sFT, sFL, sArg1, sArg0, sColon, sType, sVN}
 use Rattle.language.proofs.reading.Machine.{sProcH, sPN, sPL, sArgp1, sArgp0, sVarN, sSN, sIC, sIB, sWC, sKN, sK1, sK0, sParen, sParenP, sE3, sE2}
-use Rattle.language.proofs.reading.Machine.{sE1, sRP, sArgs1, sArgs0, sAN, sTs1, sTs0, sTR, sTP, sAT}
+use Rattle.language.proofs.reading.Machine.{sE1, sRP, sArgs1, sArgs0, sAN, sTs1, sTs0, sTR, sTP, sAT, sFArg1, sFArg0, sFBody, sFOpen, sEnd}
 
 -- the symbols, numbered
 abbrev pub sym-code : Sym → ℕ
@@ -54,19 +54,26 @@ sym-code sTs0 = 39
 sym-code sTR = 40
 sym-code sTP = 41
 sym-code sAT = 42
+sym-code sFArg1 = 43
+sym-code sFArg0 = 44
+sym-code sFBody = 45
+sym-code sFOpen = 46
+sym-code sEnd = 47
 
 abbrev pub syms : List Sym
 syms =
     sBlock ∷ sBody ∷ sTail ∷ sSemi ∷ sCN ∷ sCT ∷ sExpr ∷ sFunH ∷ sFN ∷ sFT ∷ sFL ∷ sArg1 ∷ sArg0 ∷ sColon
     ∷ sType ∷ sVN ∷ sProcH ∷ sPN ∷ sPL ∷ sArgp1 ∷ sArgp0 ∷ sVarN ∷ sSN ∷ sIC ∷ sIB ∷ sWC ∷ sKN ∷ sK1
-    ∷ sK0 ∷ sParen ∷ sParenP ∷ sE3 ∷ sE2 ∷ sE1 ∷ sRP ∷ sArgs1 ∷ sArgs0 ∷ sAN ∷ sTs1 ∷ sTs0 ∷ sTR ∷ sTP ∷ sAT ∷ []
+    ∷ sK0 ∷ sParen ∷ sParenP ∷ sE3 ∷ sE2 ∷ sE1 ∷ sRP ∷ sArgs1 ∷ sArgs0 ∷ sAN ∷ sTs1 ∷ sTs0 ∷ sTR ∷ sTP ∷ sAT
+    ∷ sFArg1 ∷ sFArg0 ∷ sFBody ∷ sFOpen ∷ sEnd ∷ []
 
--- what a rule writes: nothing, a node without children, a node with children, another kind for the last node
+-- what a rule writes: nothing, a node without children, a node with children, another kind for the last node; the first command of a function's block
 abbrev pub act-code : Act → ℕ
 act-code skip = 0
 act-code (leaf k) = 32 + k
 act-code (fork k) = 64 + k
 act-code (turn k) = 96 + k
+act-code (lead k) = 128 + k
 
 -- how a rule pushes, and what
 abbrev pub how-code : Option Push → ℕ
@@ -96,14 +103,14 @@ abbrev pub next-code : Option Sym → ℕ
 next-code none = 0
 next-code (some X) = sym-code X
 
--- a rule: 7 bits of what it writes, 3 and 6 of what it pushes, 1 and 6 of what comes beside, and a last 1; 0 where there is no rule
+-- a rule: 8 bits of what it writes, 3 and 6 of what it pushes, 1 and 6 of what comes beside, and a last 1; 0 where there is no rule
 abbrev pub rule-word : Option Rule → ℕ
 rule-word none = 0
 rule-word (some (rule k a ps ns)) = ((act-code a * 512 + (how-code ps * 64 + push-code ps)) * 128 + (flag-code ns * 64 + next-code ns)) * 2 + 1
 
 -- a rule with the kind of word that it is for
 abbrev pub packed-rule : Rule → ℕ
-packed-rule (rule k a ps ns) = k * 16777216 + rule-word (some (rule k a ps ns))
+packed-rule (rule k a ps ns) = k * 33554432 + rule-word (some (rule k a ps ns))
 
 -- the rules of some symbols, one symbol after the other, and where each symbol's start
 abbrev pub rules-of : List Sym → List ℕ
@@ -120,6 +127,6 @@ rule-list = rules-of syms
 unfoldable pub rule-starts : List ℕ
 rule-starts = starts-of syms 0
 
--- an entry of the stack: its symbol, its level, the link of the sibling before it, the link of the CALL that it stands in
+-- an entry of the stack: its symbol, its level, the link of the sibling before it, the link of the CALL or the function that it stands in
 abbrev pub entry-word : Entry → ℕ
 entry-word (ent X q u) = sym-code X * 1099511627776 + lev u * 4294967296 + q * 65536 + cal u

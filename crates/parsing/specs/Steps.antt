@@ -29,7 +29,7 @@ abbrev pub how-in : ℕ → ℕ
 how-in r = r / 16384 % 8
 
 abbrev pub act-in : ℕ → ℕ
-act-in r = r / 4194304 % 4
+act-in r = r / 4194304 % 8
 
 abbrev pub kind-in : ℕ → ℕ
 kind-in r = r / 131072 % 32
@@ -37,7 +37,7 @@ kind-in r = r / 131072 % 32
 -- the rule for a kind of word among some: 0 for none
 unfoldable pub found : ℕ → List ℕ → ℕ
 found k [] = 0
-found k (r ∷ rs) = cond (eqb k (r / 16777216)) (r % 16777216) (found k rs)
+found k (r ∷ rs) = cond (eqb k (r / 33554432)) (r % 33554432) (found k rs)
 
 -- by a table of rules and one of where each symbol's start: the rules of the symbol y, up to where the next one's start; the rule for an entry and a word
 abbrev pub rules-of-symbol : (rules starts : List ℕ) → ℕ → List ℕ
@@ -84,12 +84,23 @@ linked q m l = cond (eqb q 0) l (cond (leb q m) (set l (q - 1) (getD l (q - 1) 0
 unfoldable pub retyped : ℕ → ℕ → List ℕ → List ℕ
 retyped k m l = cond (eqb m 0) l (set l (m - 1) (k * 281474976710656 + getD l (m - 1) 0 % 281474976710656))
 
+-- the tree with the kind of a function with a block, 29 more, for the function of link c; 0 changes nothing
+unfoldable pub blocked : ℕ → ℕ → List ℕ → List ℕ
+blocked c m l =
+    cond (eqb c 0) l
+    (cond (leb c m)
+    (set l (c - 1) ((getD l (c - 1) 0 / 281474976710656 + 29) % 65536 * 281474976710656 + getD l (c - 1) 0 % 281474976710656)) l)
+
+-- the tree before a new node: where that is the first command of a function's block, the bracket before it is a block's, and the function has a block
+unfoldable pub mended : (a c m : ℕ) → List ℕ → List ℕ
+mended a c m l = cond (eqb a 4) (blocked c m (retyped 1 m l)) l
+
 -- the tree after a rule, and how many nodes it then has
 unfoldable pub wrote : (r w p m : ℕ) → List ℕ → List ℕ
 wrote r w p m l =
     cond (eqb (act-in r) 0) l
     (cond (eqb (act-in r) 3) (retyped (kind-in r) m l)
-    (set (linked (link-in w) m l) m (kind-in r * 281474976710656 + p * 4294967296 + cond (eqb (act-in r) 1) 0 (m + 1) * 65536)))
+    (set (linked (link-in w) m (mended (act-in r) (call-in w) m l)) m (kind-in r * 281474976710656 + p * 4294967296 + cond (eqb (act-in r) 1) 0 (m + 1) * 65536)))
 
 unfoldable pub count : ℕ → ℕ → ℕ
 count r m = cond (eqb (act-in r) 0) m (cond (eqb (act-in r) 3) m (m + 1))

@@ -6,7 +6,7 @@ use mathlib.Core.Bool.{Bool, true, false, cond}
 use Prim.Native.Nat.{ℕ, suc, _+_, _<_, _≤_}
 use native.Mathlib.Omega.{arith}
 use lib.Dec.{ltb}
-use lib.ListN.{length, drop, length-map, length-drop}
+use lib.ListN.{length, drop, length-map}
 use Rattle.language.specs.Syntax.{Block}
 use Rattle.language.specs.Answers.{Result, fine, refuse, refusal-number}
 use Rattle.language.specs.Words.{Word, place-word, wordsOf, most}
@@ -21,13 +21,15 @@ use Rattle.language.proofs.reading.Sound.{sound}
 use Rattle.language.proofs.reading.Written.{written}
 use Rattle.language.proofs.reading.One.{built}
 use Rattle.language.proofs.reading.Payload.{All, words-stand}
-use Rattle.language.proofs.reading.Standing.{Stands}
+use Rattle.nodes.proofs.Proper.{Low, Proper, proper}
+use Rattle.nodes.proofs.Standing.{low-places}
 use Rattle.scanning.specs.Scanning.{word-entry, whole}
 use Rattle.parsing.specs.Codes.{entry-word}
 use Rattle.parsing.specs.Steps.{run}
 use Rattle.reading.specs.Outcomes.{told}
-use Rattle.reading.proofs.Trees.{fit-none}
-use Rattle.reading.proofs.Simulated.{Placed, placed-none, placed-more, stacked-none, stacked-more, spoken, simulated}
+use Rattle.reading.proofs.Trees.{word-in, fit-none}
+use Rattle.reading.proofs.Narrow.{narrow}
+use Rattle.reading.proofs.Simulated.{stacked-none, stacked-more, spoken, simulated}
 
 -- where the bounded machine finishes, the unbounded one goes through, with the same nodes
 abbrev Follows : End → Parsed → Type 0
@@ -57,26 +59,18 @@ follows (x ∷ ts) (ent X q u ∷ s) t f = go (pick (tag x) (rules X)) (λ s′ 
 same-nodes : {t t′ : List Node} {o o′ : List ℕ} → through t o ≡ through t′ o′ → t ≡ t′
 same-nodes e = cc
 
-told-nodes : (l : List ℕ) (b : Block) (t : List Node) → t ≡ enc (shapeBlock b Forest.none) 0
-    → whole (map wordOf t ++ drop (length t) l) (length t) ≡ told l (fine b)
+told-nodes : (l : List ℕ) (b : Block) (t : List Node) → Proper (shapeBlock b Forest.none) → t ≡ enc (shapeBlock b Forest.none) 0
+    → whole (map word-in t ++ drop (length t) l) (length t) ≡ told l (fine b)
 unfolding table
-told-nodes l b t e = rw (← e, length-map t wordOf) refl
+told-nodes l b t h e = rw (e, narrow (shapeBlock b Forest.none) 0 h, length-map (enc (shapeBlock b Forest.none) 0) wordOf) refl
 
-spoken-told : (s l : List ℕ) (ts : List Word) (e : End) → Follows e (parse ts start [] (λ z. z)) → spoken s l e ≡ told l (answerOf s ts e)
-spoken-told s l ts (wrong rest) h = refl
-spoken-told s l ts (too-deep rest) h = refl
-spoken-told s l ts (finished t) h =
+spoken-told : (s l : List ℕ) (ts : List Word) → All Low ts → (e : End) → Follows e (parse ts start [] (λ z. z)) → spoken s l e ≡ told l (answerOf s ts e)
+spoken-told s l ts low (wrong rest) h = refl
+spoken-told s l ts low (too-deep rest) h = refl
+spoken-told s l ts low (finished t) h =
     let p = sound ts t (h .0) (h .1) in
     let same : t ≡ enc (shapeBlock (p .0) Forest.none) 0 = same-nodes (sym (h .1) ∙ written (p .1)) in
-    told-nodes l (p .0) t same ∙ ap (λ (g : Got Block). told l (accept g)) (sym (built (p .1)))
-
--- the words of a text of at most 65,536 bytes have places of 16 bits
-placed : (s : List ℕ) (ts : List Word) → length s ≤ 65536 → All (Stands s) ts → Placed ts
-placed s [] h a = placed-none
-placed s (x ∷ ts) h a = placed-more (in-text (a .0 .byte) (a .0 .rest) (a .0 .there)) (placed s ts h (a .1))
-  where
-    in-text : (b : ℕ) (r : List ℕ) → drop (place-word x) s ≡ b ∷ r → place-word x < 65536
-    in-text b r e = omega (arith, length-drop (place-word x) s, ap length e)
+    told-nodes l (p .0) t (proper (p .1) low) same ∙ ap (λ (g : Got Block). told l (accept g)) (sym (built (p .1)))
 
 zero-fits : 0 < 65536
 zero-fits = omega arith
@@ -85,7 +79,8 @@ zero-fits = omega arith
 pub answered : (s l : List ℕ) (ts : List Word) → length s ≤ 65536 → wordsOf s ≡ fine ts → length ts ≤ most → most ≤ length l
     → run (length s) (map word-entry ts) (map entry-word start) l 0 ≡ told l (read s)
 answered s l ts hs e h k =
-    simulated s l ts start [] (placed s ts hs (words-stand s ts e))
+    let low = low-places s hs ts (words-stand s ts e) in
+    simulated s l ts start [] low
     (stacked-more zero-fits zero-fits (omega arith) stacked-none) fit-none (omega arith) (omega arith)
-    ∙ spoken-told s l ts (bounded ts start []) (follows ts start [] (λ z. z))
+    ∙ spoken-told s l ts low (bounded ts start []) (follows ts start [] (λ z. z))
     ∙ ap (told l) (sym (bounded-answer s ts e h))

@@ -1,5 +1,6 @@
 pub mod Numbered
 pub mod Trees
+pub mod Narrow
 pub mod Simulated
 pub mod Answered
 pub mod Scanned

@@ -13,7 +13,7 @@ use Rattle.language.proofs.reading.Machine.{code, tag, cal, lev, ctx, Ctx, down
 use Rattle.language.proofs.reading.Machine.{pick, Entry, ent, opened, places, follow}
 use Rattle.language.proofs.reading.Machine.{sBlock, sBody, sTail, sSemi, sCN, sCT, sExpr, sFunH, sFN, sFT, sFL, sArg1, sArg0, sColon, sType, sVN}
 use Rattle.language.proofs.reading.Machine.{sProcH, sPN, sPL, sArgp1, sArgp0, sVarN, sSN, sIC, sIB, sWC, sKN, sK1, sK0, sParen, sParenP, sE3, sE2}
-use Rattle.language.proofs.reading.Machine.{sE1, sRP, sArgs1, sArgs0, sAN, sTs1, sTs0, sTR, sTP, sAT}
+use Rattle.language.proofs.reading.Machine.{sE1, sRP, sArgs1, sArgs0, sAN, sTs1, sTs0, sTR, sTP, sAT, sFArg1, sFArg0, sFBody, sFOpen, sEnd}
 use Rattle.language.proofs.reading.Machine
 use Rattle.scanning.specs.Scanning.{word-entry}
 use Rattle.parsing.specs.Codes
@@ -26,6 +26,7 @@ act-kind Machine.skip = 0
 act-kind (Machine.leaf k) = k
 act-kind (Machine.fork k) = k
 act-kind (Machine.turn k) = k
+act-kind (Machine.lead k) = k
 
 abbrev pub rule-kind : Rule → ℕ
 rule-kind (rule j a ps ns) = act-kind a
@@ -34,9 +35,9 @@ abbrev kinds-fit : List Rule → Bool
 kinds-fit [] = true
 kinds-fit (r ∷ rs) = ltb (rule-kind r) 32 && kinds-fit rs
 
--- a symbol's number is below 43, and the table has its rules there; they write kinds of nodes below 32
+-- a symbol's number is below 48, and the table has its rules there; they write kinds of nodes below 32
 record Known (X : Sym) : Type 0 where
-  small : sym-code X < 43
+  small : sym-code X < 48
   listed : rules-at (sym-code X) ≡ map packed-rule (rules X)
   kinds : kinds-fit (rules X) ≡ true
 
@@ -85,12 +86,17 @@ known sTs0 = record { small = omega arith; listed = refl; kinds = refl }
 known sTR = record { small = omega arith; listed = refl; kinds = refl }
 known sTP = record { small = omega arith; listed = refl; kinds = refl }
 known sAT = record { small = omega arith; listed = refl; kinds = refl }
+known sFArg1 = record { small = omega arith; listed = refl; kinds = refl }
+known sFArg0 = record { small = omega arith; listed = refl; kinds = refl }
+known sFBody = record { small = omega arith; listed = refl; kinds = refl }
+known sFOpen = record { small = omega arith; listed = refl; kinds = refl }
+known sEnd = record { small = omega arith; listed = refl; kinds = refl }
 
 and-left : (a b : Bool) → (a && b) ≡ true → a ≡ true
 and-left true b e = refl
 and-left false b e = e
 
-and-right : (a b : Bool) → (a && b) ≡ true → b ≡ true
+pub and-right : (a b : Bool) → (a && b) ≡ true → b ≡ true
 and-right true b e = e
 and-right false b e = absurd (subst (λ (c : Bool). elim c as (λ _. Type 0) [ true ↦ ⊥ | false ↦ Unit {0} ]) e tt)
 
@@ -137,24 +143,27 @@ next-small : (ns : Option Sym) → Codes.next-code ns < 64
 next-small none = omega arith
 next-small (some Y) = sym-small Y
 
--- how a rule writes: 1 a leaf, 2 a fork, 3 another kind
+-- how a rule writes: 1 a leaf, 2 a fork, 3 another kind, 4 the first command of a function's block
 abbrev pub act-number : Act → ℕ
 act-number Machine.skip = 0
 act-number (Machine.leaf k) = 1
 act-number (Machine.fork k) = 2
 act-number (Machine.turn k) = 3
+act-number (Machine.lead k) = 4
 
 act-coded : (a : Act) → Codes.act-code a ≡ act-number a * 32 + act-kind a
 act-coded Machine.skip = refl
 act-coded (Machine.leaf k) = omega arith
 act-coded (Machine.fork k) = omega arith
 act-coded (Machine.turn k) = omega arith
+act-coded (Machine.lead k) = omega arith
 
-act-number-small : (a : Act) → act-number a < 4
+act-number-small : (a : Act) → act-number a < 8
 act-number-small Machine.skip = omega arith
 act-number-small (Machine.leaf k) = omega arith
 act-number-small (Machine.fork k) = omega arith
 act-number-small (Machine.turn k) = omega arith
+act-number-small (Machine.lead k) = omega arith
 
 module _ (k : ℕ) (a : Act) (ps : Option Push) (ns : Option Sym) where
   pub no-zero : rule-word (some (rule k a ps ns)) ≡ 0 → ⊥
@@ -184,10 +193,10 @@ unfolding found
 found-picked k [] h = refl
 found-picked k (rule j a ps ns ∷ rs) h =
     let small : act-kind a < 32 = ltb-true (act-kind a) 32 (and-left (ltb (act-kind a) 32) (kinds-fit rs) h) in
-    let below : rule-word (some (rule j a ps ns)) < 16777216 =
+    let below : rule-word (some (rule j a ps ns)) < 33554432 =
     omega (arith, small, act-coded a, act-number-small a, how-small ps, push-small ps, flag-small ns, next-small ns) in
-    let kind : packed-rule (rule j a ps ns) / 16777216 ≡ j = omega arith in
-    let word : packed-rule (rule j a ps ns) % 16777216 ≡ rule-word (some (rule j a ps ns)) = omega arith in
+    let kind : packed-rule (rule j a ps ns) / 33554432 ≡ j = omega arith in
+    let word : packed-rule (rule j a ps ns) % 33554432 ≡ rule-word (some (rule j a ps ns)) = omega arith in
     rw (kind, word, found-picked k rs (and-right (ltb (act-kind a) 32) (kinds-fit rs) h)) (picked (eqb k j))
   where
     picked : (b : Bool) → cond b (rule-word (some (rule j a ps ns))) (rule-word (pick k rs)) ≡ rule-word (cond b (some (rule j a ps ns)) (pick k rs))
@@ -205,7 +214,7 @@ module _ (X : Sym) (q : ℕ) (u : Ctx) (hq : q < 65536) (hc : cal u < 65536) (hd
   pub link-of : link-in (entry-word (ent X q u)) ≡ q
   link-of = omega arith
 
-  call-of : call-in (entry-word (ent X q u)) ≡ cal u
+  pub call-of : call-in (entry-word (ent X q u)) ≡ cal u
   call-of = omega arith
 
   -- the code finds the rule that the machine picks

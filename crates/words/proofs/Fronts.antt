@@ -15,7 +15,7 @@ use Rattle.language.specs.Answers.{BYTE, NUMBER}
 use Rattle.language.specs.Numbers.{in-range}
 use Rattle.language.specs.Syntax.{at}
 use Rattle.language.specs.Words.{Mark, kLbr, kRbr, kLpar, kRpar, kSemi, kColon, kComma, kStar, kArrow, kCONST, kFUN, kREC, kVAR, kPROC, kECHO, kSET}
-use Rattle.language.specs.Words.{kIF, kWHILE, kCALL, kif, kand, kor, kbool, kint, kvar, kadr, kvec, kalloc, knth, klen, kvset}
+use Rattle.language.specs.Words.{kIF, kWHILE, kCALL, kRETURN, kif, kand, kor, kbool, kint, kvar, kadr, kvec, kalloc, knth, klen, kvset}
 use Rattle.language.specs.Words.{mark, number, named, isSep, isLetter, isDigit, isPlain, stretch, symbols, keyWords, mark-of}
 use Rattle.language.specs.Words.{Front, gap, word, bad, spelled, decimal, numeral, minus, symbol, front, nameAt}
 use Rattle.language.proofs.reading.Machine.{code}
@@ -49,6 +49,7 @@ code-some kSET = tt
 code-some kIF = tt
 code-some kWHILE = tt
 code-some kCALL = tt
+code-some kRETURN = tt
 code-some kif = tt
 code-some kand = tt
 code-some kor = tt

@@ -1,4 +1,6 @@
-use mathlib.Core.Path.{refl}
+-- Written by tools/prove from Proof.tmpl.
+use mathlib.Core.Path.{refl, _∙_}
+use lib.ListN.{length-set}
 use borrow.Author.Tests.{eq-eqb, ne-eqb}
 use Rattle.parsing.specs.Steps.{wrote, count}
 use borrow.Author.Needs.{needs}
@@ -21,6 +23,9 @@ returns-2 c =
     let full = ne-eqb _ 0 (c .before .before .before .before .before .if1 .left) in
     let turned = eq-eqb _ 3 (c .before .before .before .before .if2 .taken) in
     (rw (full, turned) (c .before .before .retype-last .ensures), (rw (full, turned) refl, search needs))
+
+mend-requires : tie.Need-mend-requires
+mend-requires c κs = search needs
 
 link-sibling-requires : tie.Need-link-sibling-requires
 link-sibling-requires c κs = search needs
@@ -53,14 +58,17 @@ add-result : tie.Need-add-result
 add-result c = search needs
 
 same-length-2 : tie.Need-same-length-2
-same-length-2 c = search needs
+same-length-2 c = length-set (c .before .before .before .link-sibling .last .0) (c .before .before .before .before .before .before .before .before .before .before .before .before .args .m) _ ∙ c .before .before .tree3 .given ∙ c .before .before .before .before .before .before .tree2 .given
 
 returns-3 : tie.Need-returns-3
 unfolding wrote count
 returns-3 c =
-    let full = ne-eqb _ 0 (c .before .before .before .before .before .before .if1 .left) in
-    let fresh = ne-eqb _ 3 (c .before .before .before .before .before .if2 .left) in
-    (rw (full, fresh, ← c .first-child .ensures .0, ← c .before .before .before .link-sibling .ensures) refl, (rw (full, fresh) refl, search needs))
+    let full = ne-eqb _ 0 (c .before .before .before .before .before .before .before .before .before .before .if1 .left) in
+    let fresh = ne-eqb _ 3 (c .before .before .before .before .before .before .before .before .before .if2 .left) in
+    let child = c .first-child .ensures .0 in
+    let mended = c .before .before .before .before .before .before .before .mend .ensures in
+    let linked = c .before .before .before .link-sibling .ensures in
+    (rw (full, fresh, ← child, ← mended, ← linked) refl, (rw (full, fresh) refl, search needs))
 
 pub write-spec : {M : Type 1} → statement M
 write-spec =
@@ -70,6 +78,7 @@ write-spec =
     retype-last-requires
     same-length
     returns-2
+    mend-requires
     link-sibling-requires
     first-child-requires
     mul-tree
