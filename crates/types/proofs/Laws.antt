@@ -1,5 +1,5 @@
--- One more round of each loop's definition, over the code's `k - 1`, and one more level of the comparison.
-use Prim.Native.Nat.{ℕ, zero, suc, _-_}
+-- One more round of each loop's definition, over the code's `k - 1`, one more level of the comparison, and a note that says no type.
+use Prim.Native.Nat.{ℕ, zero, suc, _-_, _<_}
 use mathlib.Core.Path.{_≡_, refl, ap}
 use mathlib.Core.List.{List}
 use mathlib.Core.Bool.{Bool, false}
@@ -7,8 +7,9 @@ use native.Mathlib.Numerals.{sub-one}
 use native.Mathlib.Omega.{arith}
 use lib.ListN.{length}
 use lib.Dec.{eqb}
+use borrow.Author.Tests.{lt-ltb}
 use Rattle.judge.specs.Scopes.{pick, childAt}
-use Rattle.judge.specs.Types.{sameParts, same, isFun, isVec, noteKind, partsOf, fitsFrom}
+use Rattle.judge.specs.Types.{sameParts, same, isFun, isVec, noteKind, partsOf, fitsFrom, returned}
 
 pub fits-more : (k : ℕ) → (k ≡ 0 → ⊥) → (t N : List ℕ) (y z : ℕ) → fitsFrom t N k y z ≡ fitsFrom t N (suc (k - 1)) y z
 fits-more k h t N y z = ap (λ j. fitsFrom t N j y z) (omega arith)
@@ -34,3 +35,8 @@ pub same-more : (l : ℕ) → (l ≡ 0 → ⊥) → (t N : List ℕ) (a b : ℕ)
 unfolding same
 same-more zero h t N a b = absurd (h refl)
 same-more (suc l) h t N a b = rw sub-one
+
+-- what is below the notes of those that may return says no type
+pub returned-none : (f : ℕ) → f < 196608 → 0 ≡ returned f
+unfolding returned
+returned-none f h = rw (lt-ltb f 327680 (omega (arith, h))) (omega (arith, h))

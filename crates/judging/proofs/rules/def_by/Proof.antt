@@ -5,25 +5,15 @@ use Rattle.judge.specs.Rules.{defBy}
 use Rattle.judging.proofs.rules.def_by.Statement.{statement}
 use Rattle.judging.proofs.rules.def_by.Tie as tie
 
-returns : tie.Need-returns
-unfolding defBy
-returns c = rw (lt-ltb _ 2 (c .if1 .taken))
-
 child-at-requires : tie.Need-child-at-requires
 child-at-requires c κs = search needs
 
 def-rule-requires : tie.Need-def-rule-requires
 def-rule-requires c κs = search needs
 
-returns-2 : tie.Need-returns-2
+returns : tie.Need-returns
 unfolding defBy
-returns-2 c =
-    rw (
-      le-ltb _ 2 (c .before .before .before .if1 .left),
-      ← c .before .before .child-at .ensures,
-      lt-ltb _ 5 (c .before .if2 .taken),
-      c .def-rule .ensures,
-    )
+returns c = rw (← c .before .before .child-at .ensures, lt-ltb _ 5 (c .before .if1 .taken), c .def-rule .ensures)
 
 place-at-requires : tie.Need-place-at-requires
 place-at-requires c κs = search needs
@@ -34,49 +24,36 @@ next-at-requires c κs = search needs
 cell-rule-requires : tie.Need-cell-rule-requires
 cell-rule-requires c κs = search needs
 
-returns-3 : tie.Need-returns-3
+returns-2 : tie.Need-returns-2
 unfolding defBy
-returns-3 c =
+returns-2 c =
     rw (
-      le-ltb _ 2 (c .before .before .before .before .before .before .if1 .left),
       ← c .before .before .before .before .before .child-at .ensures,
-      le-ltb _ 5 (c .before .before .before .before .if2 .left),
-      eq-eqb _ 5 (c .before .before .before .if3 .taken),
+      le-ltb _ 5 (c .before .before .before .before .if1 .left),
+      eq-eqb _ 5 (c .before .before .before .if2 .taken),
       ← c .before .before .place-at .ensures,
       ← c .before .next-at .ensures,
       c .cell-rule .ensures,
     )
 
-place-at-requires-2 : tie.Need-place-at-requires-2
-place-at-requires-2 c κs = search needs
+proc-rule-requires : tie.Need-proc-rule-requires
+proc-rule-requires c κs = search needs
 
-free-rule-requires : tie.Need-free-rule-requires
-free-rule-requires c κs = search needs
-
-returns-4 : tie.Need-returns-4
+returns-3 : tie.Need-returns-3
 unfolding defBy
-returns-4 c =
-    rw (
-      le-ltb _ 2 (c .before .before .before .before .before .if1 .left),
-      ← c .before .before .before .before .child-at .ensures,
-      le-ltb _ 5 (c .before .before .before .if2 .left),
-      ne-eqb _ 5 (c .before .before .if3 .left),
-      ← c .before .place-at2 .ensures,
-      c .free-rule .ensures,
-    )
+returns-3 c =
+    rw (← c .before .before .before .child-at .ensures, le-ltb _ 5 (c .before .before .if1 .left), ne-eqb _ 5 (c .before .if2 .left), c .proc-rule .ensures)
 
 pub def-by-spec : {M : Type 1} → statement M
 def-by-spec =
     tie.close
     (tie.spec
-    returns
     child-at-requires
     def-rule-requires
-    returns-2
+    returns
     place-at-requires
     next-at-requires
     cell-rule-requires
-    returns-3
-    place-at-requires-2
-    free-rule-requires
-    returns-4)
+    returns-2
+    proc-rule-requires
+    returns-3)

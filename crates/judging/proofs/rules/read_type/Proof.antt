@@ -16,13 +16,7 @@ next-at-requires c κs = search needs
 
 returns : tie.Need-returns
 unfolding readType
-returns c =
-    rw (
-      ← c .before .before .before .kind-at .ensures,
-      eq-eqb _ 2 (c .before .before .if1 .taken),
-      ← c .before .child-at .ensures,
-      c .next-at .ensures,
-    )
+returns c = rw (← c .before .before .before .kind-at .ensures, eq-eqb _ 2 (c .before .before .if1 .taken), ← c .before .child-at .ensures, c .next-at .ensures)
 
 child-at-requires-2 : tie.Need-child-at-requires-2
 child-at-requires-2 c κs = search needs
@@ -41,24 +35,29 @@ returns-2 c =
       c .next-at2 .ensures,
     )
 
+is-function-requires : tie.Need-is-function-requires
+is-function-requires c κs = search needs
+
 returns-3 : tie.Need-returns-3
 unfolding readType
 returns-3 c =
     rw (
-      ← c .before .before .before .kind-at .ensures,
-      ne-eqb _ 2 (c .before .before .if1 .left),
-      ne-eqb _ 5 (c .before .if2 .left),
-      lt-ltb _ 5 (c .if3 .taken),
+      ← c .before .before .before .before .kind-at .ensures,
+      ne-eqb _ 2 (c .before .before .before .if1 .left),
+      ne-eqb _ 5 (c .before .before .if2 .left),
+      ← c .before .is-function .ensures,
+      c .if3 .taken,
     )
 
 returns-4 : tie.Need-returns-4
 unfolding readType
 returns-4 c =
     rw (
-      ← c .before .before .before .before .kind-at .ensures,
-      ne-eqb _ 2 (c .before .before .before .if1 .left),
-      ne-eqb _ 5 (c .before .before .if2 .left),
-      le-ltb _ 5 (c .before .if3 .left),
+      ← c .before .before .before .before .before .kind-at .ensures,
+      ne-eqb _ 2 (c .before .before .before .before .if1 .left),
+      ne-eqb _ 5 (c .before .before .before .if2 .left),
+      ← c .before .before .is-function .ensures,
+      c .before .if3 .left,
       lt-ltb _ 8 (c .if4 .taken),
     )
 
@@ -69,10 +68,11 @@ returns-5 : tie.Need-returns-5
 unfolding readType
 returns-5 c =
     rw (
-      ← c .before .before .before .before .before .kind-at .ensures,
-      ne-eqb _ 2 (c .before .before .before .before .if1 .left),
-      ne-eqb _ 5 (c .before .before .before .if2 .left),
-      le-ltb _ 5 (c .before .before .if3 .left),
+      ← c .before .before .before .before .before .before .kind-at .ensures,
+      ne-eqb _ 2 (c .before .before .before .before .before .if1 .left),
+      ne-eqb _ 5 (c .before .before .before .before .if2 .left),
+      ← c .before .before .before .is-function .ensures,
+      c .before .before .if3 .left,
       le-ltb _ 8 (c .before .if4 .left),
       c .child-at3 .ensures,
     )
@@ -88,6 +88,7 @@ read-type-spec =
     child-at-requires-2
     next-at-requires-2
     returns-2
+    is-function-requires
     returns-3
     returns-4
     child-at-requires-3

@@ -20,8 +20,14 @@ call-rule-requires c κs = search needs
 child-at-requires-2 : tie.Need-child-at-requires-2
 child-at-requires-2 c κs = search needs
 
-part-rule-requires-2 : tie.Need-part-rule-requires-2
-part-rule-requires-2 c κs = search needs
+if-stat-rule-requires : tie.Need-if-stat-rule-requires
+if-stat-rule-requires c κs = search needs
+
+child-at-requires-3 : tie.Need-child-at-requires-3
+child-at-requires-3 c κs = search needs
+
+while-rule-requires : tie.Need-while-rule-requires
+while-rule-requires c κs = search needs
 
 returns : tie.Need-returns
 unfolding statBy
@@ -37,13 +43,18 @@ returns-3 c = rw (c .before .match .keys3, c .call-rule .ensures)
 
 returns-4 : tie.Need-returns-4
 unfolding statBy
-returns-4 c =
+returns-4 c = rw (c .before .before .match .keys4, ← c .before .child-at2 .ensures, c .if-stat-rule .ensures)
+
+returns-5 : tie.Need-returns-5
+unfolding statBy
+returns-5 c =
     rw (
-      ne-eqb _ 8 (c .before .before .match .rest .0 .0 .1),
-      ne-eqb _ 9 (c .before .before .match .rest .0 .1),
-      ne-eqb _ 12 (c .before .before .match .rest .1),
-      ← c .before .child-at2 .ensures,
-      c .part-rule2 .ensures,
+      ne-eqb _ 8 (c .before .before .match .rest .0 .0 .0 .1),
+      ne-eqb _ 9 (c .before .before .match .rest .0 .0 .1),
+      ne-eqb _ 12 (c .before .before .match .rest .0 .1),
+      ne-eqb _ 10 (c .before .before .match .rest .1),
+      ← c .before .child-at3 .ensures,
+      c .while-rule .ensures,
     )
 
 pub stat-by-spec : {M : Type 1} → statement M
@@ -55,8 +66,11 @@ stat-by-spec =
     set-rule-requires
     call-rule-requires
     child-at-requires-2
-    part-rule-requires-2
+    if-stat-rule-requires
+    child-at-requires-3
+    while-rule-requires
     returns
     returns-2
     returns-3
-    returns-4)
+    returns-4
+    returns-5)
