@@ -52,13 +52,15 @@ small-first t f e = let h = child-small t 0 in omega (arith, h, e)
 module _ (g : Script) where
   own-is : (k i : ℕ) → ownOf g k i ≡ binderName g (ownBinder k (child g i))
   unfolding ownOf ownBinder binderName pick
-  own-is k i = by (eqb k 4) (eqb k 7)
+  own-is k i = by (eqb k 4) (eqb k 7) (eqb k 33)
     where
-      by : (a b : Bool) → pick a (λ _. some (nameOf g (child g i))) (λ _. pick b (λ _. some (nameOf g (child g i))) λ _. none) ≡
-          binderName g (pick a (λ _. suc (child g i)) λ _. pick b (λ _. suc (child g i)) λ _. 0)
-      by true b = refl
-      by false true = refl
-      by false false = refl
+      by : (a b c : Bool) →
+          pick a (λ _. some (nameOf g (child g i))) (λ _. pick b (λ _. some (nameOf g (child g i))) λ _. pick c (λ _. some (nameOf g (child g i))) λ _. none) ≡
+          binderName g (pick a (λ _. suc (child g i)) λ _. pick b (λ _. suc (child g i)) λ _. pick c (λ _. suc (child g i)) λ _. 0)
+      by true b c = refl
+      by false true c = refl
+      by false false true = refl
+      by false false false = refl
 
   entry-is : (own i : ℕ) (Γ : List Name) → entry g (binderName g own) i Γ ≡ joined (binderName g (whenLast (next g i) own)) Γ
   unfolding entry binderName whenLast joined pick
@@ -75,15 +77,16 @@ module _ (g : Script) where
 
   after-is : (k i : ℕ) (Γ : List Name) → after g k i Γ ≡ joined (binderName g (binderOf k i (child g i))) Γ
   unfolding after binderOf binderName joined pick
-  after-is k i Γ = by (ltb k 2) (ltb k 8) (isParam k)
+  after-is k i Γ = by (ltb k 2) (ltb k 8) (isParam k) (ltb k 32)
     where
-      by : (a b c : Bool) →
-          pick a (λ _. Γ) (λ _. pick b (λ _. nameOf g (child g i) ∷ Γ) λ _. pick c (λ _. nameOf g i ∷ Γ) λ _. Γ) ≡
-          joined (binderName g (pick a (λ _. 0) λ _. pick b (λ _. suc (child g i)) λ _. pick c (λ _. suc i) λ _. 0)) Γ
-      by true b c = refl
-      by false true c = refl
-      by false false true = refl
-      by false false false = refl
+      by : (a b c d : Bool) →
+          pick a (λ _. Γ) (λ _. pick b (λ _. nameOf g (child g i) ∷ Γ) λ _. pick c (λ _. nameOf g i ∷ Γ) λ _. pick d (λ _. Γ) λ _. nameOf g (child g i) ∷ Γ) ≡
+          joined (binderName g (pick a (λ _. 0) λ _. pick b (λ _. suc (child g i)) λ _. pick c (λ _. suc i) λ _. pick d (λ _. 0) λ _. suc (child g i))) Γ
+      by true b c d = refl
+      by false true c d = refl
+      by false false true d = refl
+      by false false false true = refl
+      by false false false false = refl
 
   -- what a node binds counts only where a sibling follows
   rest-is : (k m i : ℕ) (Γ : List Name) (own : Option Name) →

@@ -13,11 +13,12 @@ use Rattle.machine.specs.Codes.{nameOf}
 
 -- a binder as a number: 0 is none, and i + 1 is the node i
 unfoldable pub ownBinder : (kind child : ℕ) → ℕ
-ownBinder k c = pick (eqb k 4) (λ _. suc c) λ _. pick (eqb k 7) (λ _. suc c) λ _. 0
+ownBinder k c = pick (eqb k 4) (λ _. suc c) λ _. pick (eqb k 7) (λ _. suc c) λ _. pick (eqb k 33) (λ _. suc c) λ _. 0
 
 -- what a node of this kind binds for its siblings
 unfoldable pub binderOf : (kind i child : ℕ) → ℕ
-binderOf k i c = pick (ltb k 2) (λ _. 0) λ _. pick (ltb k 8) (λ _. suc c) λ _. pick (isParam k) (λ _. suc i) λ _. 0
+binderOf k i c =
+    pick (ltb k 2) (λ _. 0) λ _. pick (ltb k 8) (λ _. suc c) λ _. pick (isParam k) (λ _. suc i) λ _. pick (ltb k 32) (λ _. 0) λ _. suc c
 
 -- a binder that counts for the last node of a row only, and one that counts for all others
 unfoldable pub whenLast : (next binder : ℕ) → ℕ

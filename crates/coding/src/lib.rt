@@ -28,6 +28,16 @@ const BINDERS: usize = 4096;
 // The code of a name that is not bound.
 const NOT_BOUND: u64 = 10;
 
+// Kinds of definitions whose name is in force in their body.
+const FUN_REC: u64 = 4;
+
+const PROC_REC: u64 = 7;
+
+const FUN_REC_BLOCK: u64 = 33;
+
+// From this kind on there are only the two functions with a block.
+const FUN_BLOCK: u64 = 32;
+
 // ---- the program's parts
 
 fn tree_word(prog: &[u64; 8195], i: u64) -> u64
@@ -166,8 +176,9 @@ fn own_binder(kind: u64, child: u64) -> u64
     ensures { λ r. ⌜ r ≡ ownBinder kind child ⌝ }
 {
     match kind {
-        4 => child + 1,
-        7 => child + 1,
+        FUN_REC => child + 1,
+        PROC_REC => child + 1,
+        FUN_REC_BLOCK => child + 1,
         _ => 0,
     }
 }
@@ -190,7 +201,10 @@ fn binder_of(kind: u64, i: u64, child: u64) -> u64
     if kind == 14 {
         return i + 1;
     }
-    0
+    if kind < FUN_BLOCK {
+        return 0;
+    }
+    child + 1
 }
 
 // A binder that counts for the last node of a row only.

@@ -14,10 +14,10 @@ use Rattle.machine.specs.declared.Row.{Row}
 use Rattle.machine.specs.declared.Cell.{Cell}
 use Rattle.machine.specs.declared.Counts.{Counts}
 use Rattle.machine.specs.declared.Ending.{Ending}
-use Rattle.machine.specs.declared.Ending.the-variants.{Value, Stop, Unset, NoRule}
+use Rattle.machine.specs.declared.Ending.the-variants.{Value, Stop, Unset, Returned, NoRule}
 use Rattle.machine.specs.Entries.{pick, rowAfter, rowAt, putCell, putCells, putBinding, closureWord, nodeOf, envOf}
 use Rattle.machine.specs.State.{Run, Tables, tables, is, andThen, spend}
-use Rattle.machine.specs.Leaves.{bindingBehind, isParam, bodyAfter, bindAll, enter, enterAgain, openFunction, openProcedure, define, defineCell, allocate}
+use Rattle.machine.specs.Leaves.{bindingBehind, isParam, behindType, bodyAfter, bindAll, enter, enterAgain, openFunction, openProcedure, define, defineCell, allocate}
 use Rattle.machine.proofs.Ending.{the-type}
 use Rattle.machine.proofs.Members.{no-unit, no-level, goes-in}
 use Rattle.stores.proofs.Laws.{NoValue, not-value}
@@ -48,6 +48,7 @@ same-word t x u y h = ap word-of h
     word-of (Value t x) = x
     word-of (Stop n p) = 0
     word-of (Unset p q) = 0
+    word-of (Returned t x) = 0
     word-of NoRule = 0
 
 -- ---- room
@@ -160,14 +161,14 @@ module _ (g : Run) (p n sp tag word : ℕ) (m : Tables) where
     unfolding openProcedure pick
     procedure-plain h env env-is = rw (h, node-is, env-is)
 
-    pub procedure-named : tag ≡ 4 → (first : ℕ) → first ≡ nodeAt g.tree node .next →
+    pub procedure-named : tag ≡ 4 → (behind first : ℕ) → behind ≡ nodeAt g.tree node .next → first ≡ behindType g.tree behind →
         enterAgain g p n sp first tag word m ≡ openProcedure g p n sp tag word m
     unfolding openProcedure pick
-    procedure-named h first first-is = rw (first-is, node-is, h)
+    procedure-named h behind first behind-is first-is = rw (first-is, behind-is, node-is, h)
 
-  pub function-none : (tag ≡ 1 → ⊥) → (tag ≡ 2 → ⊥) → is NoRule m ≡ openFunction g p n sp tag word m
+  pub function-other : (tag ≡ 1 → ⊥) → (tag ≡ 2 → ⊥) → openProcedure g p n sp tag word m ≡ openFunction g p n sp tag word m
   unfolding openFunction pick
-  function-none h k = rw (ne-eqb tag 1 h, ne-eqb tag 2 k)
+  function-other h k = rw (ne-eqb tag 1 h, ne-eqb tag 2 k)
 
   pub procedure-none : (tag ≡ 3 → ⊥) → (tag ≡ 4 → ⊥) → is NoRule m ≡ openProcedure g p n sp tag word m
   unfolding openProcedure pick
@@ -231,32 +232,42 @@ module _ (g : Run) (env : ℕ) (n : Node) (m : Tables) where
   unfolding definition
   definition-kind k h = ap (λ (j : ℕ). definitionBy g j env n m) (sym h)
 
-  pub defines-named-function : n .kind ≡ 4 → (word : ℕ) → word ≡ closureWord (n .child) env →
-      define g (n .place) 2 word env m ≡ definition g env n m
-  unfolding definitionBy pick
-  defines-named-function h word word-is = rw word-is (definition-kind 4 h)
+  -- a closure that knows its name
+  module _ (word : ℕ) (word-is : word ≡ closureWord (n .child) env) where
+    pub defines-named-function : n .kind ≡ 4 → define g (n .place) 2 word env m ≡ definition g env n m
+    unfolding definitionBy pick
+    defines-named-function h = rw word-is (definition-kind 4 h)
+
+    pub defines-named-procedure : n .kind ≡ 7 → define g (n .place) 4 word env m ≡ definition g env n m
+    unfolding definitionBy pick
+    defines-named-procedure h = rw word-is (definition-kind 7 h)
+
+    pub defines-named-block : n .kind ≡ 33 → define g (n .place) 4 word env m ≡ definition g env n m
+    unfolding definitionBy pick
+    defines-named-block h = rw word-is (definition-kind 33 h)
 
   pub defines-cell : n .kind ≡ 5 → defineCell g (n .place) env m ≡ definition g env n m
   unfolding definitionBy pick
   defines-cell h = definition-kind 5 h
 
-  pub defines-named-procedure : n .kind ≡ 7 → (word : ℕ) → word ≡ closureWord (n .child) env →
-      define g (n .place) 4 word env m ≡ definition g env n m
-  unfolding definitionBy pick
-  defines-named-procedure h word word-is = rw word-is (definition-kind 7 h)
-
   module _ (x : Node) (x-is : x ≡ nodeAt g.tree (n .child)) where
-    pub defines-function : n .kind ≡ 3 → (first word : ℕ) → first ≡ nodeAt g.tree (x .next) .next → word ≡ closureWord first env →
-        define g (n .place) 1 word env m ≡ definition g env n m
-    unfolding definitionBy pick
-    defines-function h first word first-is word-is = rw (word-is, first-is, x-is) (definition-kind 3 h)
-
     pub defines-procedure : n .kind ≡ 6 → (word : ℕ) → word ≡ closureWord (x .next) env →
         define g (n .place) 3 word env m ≡ definition g env n m
     unfolding definitionBy pick
     defines-procedure h word word-is = rw (word-is, x-is) (definition-kind 6 h)
 
-  pub defines-nothing : (n .kind ≡ 3 → ⊥) → (n .kind ≡ 4 → ⊥) → (n .kind ≡ 5 → ⊥) → (n .kind ≡ 6 → ⊥) → (n .kind ≡ 7 → ⊥) →
-      is NoRule m ≡ definition g env n m
+    -- behind a function's name stands its type
+    module _ (first word : ℕ) (first-is : first ≡ nodeAt g.tree (x .next) .next) (word-is : word ≡ closureWord first env) where
+      pub defines-function : n .kind ≡ 3 → define g (n .place) 1 word env m ≡ definition g env n m
+      unfolding definitionBy pick
+      defines-function h = rw (word-is, first-is, x-is) (definition-kind 3 h)
+
+      pub defines-block : n .kind ≡ 32 → define g (n .place) 3 word env m ≡ definition g env n m
+      unfolding definitionBy pick
+      defines-block h = rw (word-is, first-is, x-is) (definition-kind 32 h)
+
+  pub defines-nothing : (n .kind ≡ 3 → ⊥) → (n .kind ≡ 4 → ⊥) → (n .kind ≡ 5 → ⊥) → (n .kind ≡ 6 → ⊥) → (n .kind ≡ 7 → ⊥) → (n .kind ≡ 32 → ⊥) →
+      (n .kind ≡ 33 → ⊥) → is NoRule m ≡ definition g env n m
   unfolding definition definitionBy pick
-  defines-nothing h₃ h₄ h₅ h₆ h₇ = rw (ne-eqb _ 3 h₃, ne-eqb _ 4 h₄, ne-eqb _ 5 h₅, ne-eqb _ 6 h₆, ne-eqb _ 7 h₇)
+  defines-nothing h₃ h₄ h₅ h₆ h₇ h₃₂ h₃₃ =
+      rw (ne-eqb _ 3 h₃, ne-eqb _ 4 h₄, ne-eqb _ 5 h₅, ne-eqb _ 6 h₆, ne-eqb _ 7 h₇, ne-eqb _ 32 h₃₂, ne-eqb _ 33 h₃₃)

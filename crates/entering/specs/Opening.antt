@@ -39,6 +39,8 @@ module _ (g : Run) where
       pick (eqb k 5) (λ _. defineCell g (n .place) env m) λ _.
       pick (eqb k 6) (λ _. define g (n .place) procedure-tag (closureWord (x .next) env) env m) λ _.
       pick (eqb k 7) (λ _. define g (n .place) recursive-procedure-tag (closureWord (n .child) env) env m) λ _.
+      pick (eqb k 32) (λ _. define g (n .place) procedure-tag (closureWord (nodeAt g.tree (x .next) .next) env) env m) λ _.
+      pick (eqb k 33) (λ _. define g (n .place) recursive-procedure-tag (closureWord (n .child) env) env m) λ _.
       is NoRule m
 
   unfoldable pub definition : (env : ℕ) → Node → Tables → Ret

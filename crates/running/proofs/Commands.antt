@@ -9,12 +9,12 @@ use Rattle.nodes.specs.declared.Node.{Node}
 use Rattle.nodes.specs.Nodes.{nodeAt}
 use Rattle.machine.specs.declared.Bounds.{Bounds}
 use Rattle.machine.specs.declared.Ending.{Ending}
-use Rattle.machine.specs.declared.Ending.the-variants.{Value}
+use Rattle.machine.specs.declared.Ending.the-variants.{Value, Returned}
 use Rattle.machine.specs.Entries.{pick}
 use Rattle.machine.specs.State.{Run, running, codeAt, Tables, Ret, is, onValue, andThen}
 use Rattle.machine.specs.Leaves.{addressOf, boundTo, stored, define}
-use Rattle.machine.specs.Machine.{Evaluators, onBit, constC, echoC, setC, blockC, ifC, callC, round, rounds, cmdBy, cmds, below, exprAt, blockAt, level, cmdAt}
-use Rattle.machine.specs.Machine.{whileAt, roundAt, constAt, echoAt, setAt, ifStatAt, callStatAt}
+use Rattle.machine.specs.Machine.{Evaluators, onBit, constC, echoC, setC, returnC, blockC, ifC, callC, round, rounds, cmdBy, cmds, below, exprAt, blockAt, level, cmdAt}
+use Rattle.machine.specs.Machine.{whileAt, roundAt, constAt, echoAt, setAt, ifStatAt, callStatAt, returnAt}
 use Rattle.machine.specs.Shown.{program}
 use Rattle.machine.proofs.Ending.{the-type}
 use Rattle.machine.proofs.Members.{cmd-is, cmd-while}
@@ -64,14 +64,19 @@ module _ (g : Run) (d env sp : ℕ) (m : Tables) (n : Node) where
       unfolding cmdBy pick
       cmd-call h q q-is = q-is ∙ enters 12 h
 
-      pub cmd-plain : (n .kind ≡ 2 → ⊥) → (n .kind ≡ 8 → ⊥) → (n .kind ≡ 9 → ⊥) → (n .kind ≡ 10 → ⊥) → (n .kind ≡ 12 → ⊥) →
+      pub cmd-return : n .kind ≡ 31 → (q : Ret) → q ≡ returnAt g x env sp n (r .after) → q ≡ cmdAt g d env sp n m
+      unfolding cmdBy pick
+      cmd-return h q q-is = q-is ∙ enters 31 h
+
+      pub cmd-plain : (n .kind ≡ 2 → ⊥) → (n .kind ≡ 8 → ⊥) → (n .kind ≡ 9 → ⊥) → (n .kind ≡ 10 → ⊥) → (n .kind ≡ 12 → ⊥) → (n .kind ≡ 31 → ⊥) →
           (q : Ret) → q ≡ definition g env n (r .after) → q ≡ cmdAt g d env sp n m
       unfolding definition definitionBy cmdBy pick
-      cmd-plain h₂ h₈ h₉ h₁₀ h₁₂ q q-is = q-is ∙ plain (n .kind) h₂ h₈ h₉ h₁₀ h₁₂ ∙ enters (n .kind) refl
+      cmd-plain h₂ h₈ h₉ h₁₀ h₁₂ h₃₁ q q-is = q-is ∙ plain (n .kind) h₂ h₈ h₉ h₁₀ h₁₂ h₃₁ ∙ enters (n .kind) refl
         where
-          plain : (k : ℕ) → (k ≡ 2 → ⊥) → (k ≡ 8 → ⊥) → (k ≡ 9 → ⊥) → (k ≡ 10 → ⊥) → (k ≡ 12 → ⊥) →
+          plain : (k : ℕ) → (k ≡ 2 → ⊥) → (k ≡ 8 → ⊥) → (k ≡ 9 → ⊥) → (k ≡ 10 → ⊥) → (k ≡ 12 → ⊥) → (k ≡ 31 → ⊥) →
               definitionBy g k env n (r .after) ≡ cmdBy g k (level g x) env sp n (r .after)
-          plain k h₂ h₈ h₉ h₁₀ h₁₂ = sym (simp (ne-eqb k 2 h₂, ne-eqb k 8 h₈, ne-eqb k 9 h₉, ne-eqb k 10 h₁₀, ne-eqb k 12 h₁₂))
+          plain k h₂ h₈ h₉ h₁₀ h₁₂ h₃₁ =
+              sym (simp (ne-eqb k 2 h₂, ne-eqb k 8 h₈, ne-eqb k 9 h₉, ne-eqb k 10 h₁₀, ne-eqb k 12 h₁₂, ne-eqb k 31 h₃₁))
 
 -- ---- what is entered already
 
@@ -112,17 +117,25 @@ module _ (g : Run) (d env sp : ℕ) (m : Tables) (n : Node) where
     unfolding callC applyV opens innerC blockC pick
     call-applies t x target q q-is = q-is ∙ sym (rw (← c-is, ← e-is, goes (is e m) t x target _))
 
-  -- ECHO and IF
+  -- ECHO, RETURN and IF
   module _ (r : Ret) (r-is : r ≡ exprAt g d env sp (n .child) m) where
     pub echo-passes : NoValue (r .ending) → r ≡ echoAt g d env sp n m
     unfolding echoC
     echo-passes h = rw (← r-is) (passes r h _)
+
+    pub return-passes : NoValue (r .ending) → r ≡ returnAt g d env sp n m
+    unfolding returnC
+    return-passes h = rw (← r-is) (passes r h _)
 
     pub if-stat-passes : NoValue (r .ending) → r ≡ ifStatAt g d env sp n m
     unfolding ifC
     if-stat-passes h = rw (← r-is) (passes r h _)
 
     module _ (t x : ℕ) (found : r .ending ≡ Value t x) where
+      pub return-goes : is (Returned t x) (r .after) ≡ returnAt g d env sp n m
+      unfolding returnC
+      return-goes = sym (rw (← r-is, goes r t x found _))
+
       pub echo-goes : (q : Ret) → q ≡ echoed g (n .place) env t x (r .after) → q ≡ echoAt g d env sp n m
       unfolding echoC echoed
       echo-goes q q-is = q-is ∙ sym (rw (← r-is, goes r t x found _))

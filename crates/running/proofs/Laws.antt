@@ -10,7 +10,7 @@ use lib.Dec.{T, eqb, ltb, ltb→lt}
 use borrow.Author.Tests.{eqb-true}
 use Rattle.nodes.specs.Nodes.{nodeAt}
 use Rattle.machine.specs.declared.Ending.{Ending}
-use Rattle.machine.specs.declared.Ending.the-variants.{Value, Stop, Unset, NoRule}
+use Rattle.machine.specs.declared.Ending.the-variants.{Value, Stop, Unset, Returned, NoRule}
 use Rattle.machine.specs.Entries.{pick}
 use Rattle.machine.specs.State.{Run, Tables, Ret, is, valued, onValue, andThen, spend, guard}
 use Rattle.machine.specs.Machine.{onBit, below, level}
@@ -27,7 +27,8 @@ use Rattle.stores.specs.Choices.{isBit, bitAnswer, branchOf, roundEnd}
 no-value : (e : Ending) → NoValue e → tagOf the-type e ≡ 0 → ⊥
 no-value e h z =
     ⊎-elim (λ (t : tagOf the-type e ≡ 1). omega (arith, z, t))
-    (⊎-elim (λ (t : tagOf the-type e ≡ 2). omega (arith, z, t)) λ (t : tagOf the-type e ≡ 3). omega (arith, z, t))
+    (⊎-elim (λ (t : tagOf the-type e ≡ 2). omega (arith, z, t))
+    (⊎-elim (λ (t : tagOf the-type e ≡ 3). omega (arith, z, t)) λ (t : tagOf the-type e ≡ 4). omega (arith, z, t)))
     h
 
 -- an answer that is no value is passed on
@@ -49,6 +50,7 @@ any-value r h k = by (r .ending) h
     by (Value t x) h = refl
     by (Stop n p) h = absurd (omega arith)
     by (Unset p q) h = absurd (omega arith)
+    by (Returned t x) h = absurd (omega arith)
     by NoRule h = absurd (omega arith)
 
 -- two things that may follow and do the same
@@ -60,6 +62,7 @@ follow r k l h = by (r .ending)
     by (Value t x) = h t x (r .after)
     by (Stop n p) = refl
     by (Unset p q) = refl
+    by (Returned t x) = refl
     by NoRule = refl
 
 pub valued-one : (e : Ending) (t x : ℕ) → e ≡ Value t x → valued e ≡ 1

@@ -12,10 +12,10 @@ use Rattle.nodes.specs.Nodes.{nodeAt}
 use Rattle.machine.specs.declared.Ending.{Ending}
 use Rattle.machine.specs.declared.Ending.the-variants.{Value, NoRule}
 use Rattle.machine.specs.Entries.{pick, rowAfter, row, putRow}
-use Rattle.machine.specs.State.{Run, codeAt, Tables, tables, Ret, is, onValue, andThen}
+use Rattle.machine.specs.State.{Run, codeAt, Tables, tables, Ret, is, onValue, andThen, caught}
 use Rattle.machine.specs.Leaves.{negated, combined}
-use Rattle.machine.specs.Machine.{Evaluators, onBit, args, allArgs, ifE, andE, orE, operatorE, callE, applyE, exprBy, below, exprAt, level}
-use Rattle.machine.specs.Machine.{ifAt, operatorIn, callAt, argsAt, allocAt, nthAt, lenAt, vsetAt}
+use Rattle.machine.specs.Machine.{Evaluators, onBit, args, allArgs, ifE, andE, orE, operatorE, bodyE, callE, applyE, exprBy, below, exprAt, blockAt, level}
+use Rattle.machine.specs.Machine.{ifAt, operatorIn, callAt, argsAt, bodyAt, allocAt, nthAt, lenAt, vsetAt}
 use Rattle.machine.proofs.Ending.{the-type}
 use Rattle.machine.proofs.Members.{expr-is, args-go}
 use Rattle.entering.specs.Opening.{guarded, opens}
@@ -256,13 +256,24 @@ module _ (g : Run) (d env sp : ℕ) (m : Tables) (n : Node) where
         apply-stops h = rw (← first-is, ← r-is, goes r t k found _, ← q-is) (passes q h _)
 
         module _ (ρ j : ℕ) (opened : q .ending ≡ Value ρ j) (s : Ret) where
-          pub apply-evaluates : f ≡ 23 → s ≡ exprAt g d ρ sp j (q .after) → s ≡ applyAt g f d env sp tag word n m
+          pub apply-evaluates : f ≡ 23 → s ≡ bodyAt g d ρ sp j (q .after) → s ≡ applyAt g f d env sp tag word n m
           unfolding applyV pick
           apply-evaluates h s-is = s-is ∙ sym (rw (← first-is, ← r-is, goes r t k found _, ← q-is, goes q ρ j opened _, eq-eqb f 23 h))
 
           pub apply-runs : (f ≡ 23 → ⊥) → s ≡ innerAt g 7 d env sp ρ j (q .after) → s ≡ applyAt g f d env sp tag word n m
           unfolding applyV pick
           apply-runs h s-is = s-is ∙ sym (rw (← first-is, ← r-is, goes r t k found _, ← q-is, goes q ρ j opened _, ne-eqb f 23 h))
+
+-- ---- a function's body
+
+module _ (g : Run) (d env sp i : ℕ) (m : Tables) (n : Node) (n-is : n ≡ nodeAt g.tree i) (r : Ret) where
+  pub body-evaluates : (n .kind ≡ 1 → ⊥) → r ≡ exprAt g d env sp i m → r ≡ bodyAt g d env sp i m
+  unfolding bodyE pick
+  body-evaluates h r-is = r-is ∙ sym (rw (← n-is, ne-eqb (n .kind) 1 h))
+
+  pub body-runs : n .kind ≡ 1 → r ≡ blockAt g d env sp (n .child) m → (e : Ending) → e ≡ caught (r .ending) → is e (r .after) ≡ bodyAt g d env sp i m
+  unfolding bodyE pick
+  body-runs h r-is e e-is = sym (rw (← n-is, eq-eqb (n .kind) 1 h, ← r-is, ← e-is))
 
 -- ---- the loop over arguments
 

@@ -8,7 +8,7 @@ use Rattle.machine.specs.declared.Bounds.{Bounds}
 use Rattle.machine.specs.declared.Ending.the-variants.{Value}
 use Rattle.machine.specs.Entries.{pick}
 use Rattle.machine.specs.State.{Run, Tables, Ret, is, andThen}
-use Rattle.machine.specs.Machine.{Evaluators, allArgs, level}
+use Rattle.machine.specs.Machine.{Evaluators, allArgs, bodyE, level}
 use Rattle.stores.specs.Choices.{isBit, bitAnswer}
 use Rattle.entering.specs.Opening.{opens}
 
@@ -28,7 +28,7 @@ module _ (g : Run) where
   applyV f S env sp t x n m =
       andThen (allArgs g S env sp (nodeAt g.tree (n .child) .next) m) λ _ k m₁.
       andThen (opens g f (n .place) k sp t x m₁) λ ρ i m₂.
-      pick (eqb f 23) (λ _. S .expr ρ sp i m₂) λ _. innerC 7 S env ρ sp i m₂
+      pick (eqb f 23) (λ _. bodyE g S ρ sp i m₂) λ _. innerC 7 S env ρ sp i m₂
 
   -- with d levels left
   abbrev pub partsAt : (goes-on d env sp : ℕ) → Node → Tables → Ret

@@ -20,9 +20,9 @@ use Rattle.machine.specs.declared.Cell.{Cell}
 use Rattle.machine.specs.declared.Counts.{Counts}
 use Rattle.machine.specs.declared.Row.{Row}
 use Rattle.machine.specs.declared.Ending.{Ending}
-use Rattle.machine.specs.declared.Ending.the-variants.{Value, Stop, Unset, NoRule}
+use Rattle.machine.specs.declared.Ending.the-variants.{Value, Stop, Unset, Returned, NoRule}
 use Rattle.machine.specs.Entries.{pick, bindingAt, putCell, putCells, nodeOf, envOf}
-use Rattle.machine.specs.State.{Run, Tables, tables, Ret, is, andThen, ifValue, onValue}
+use Rattle.machine.specs.State.{Run, Tables, tables, Ret, is, andThen, ifValue, onValue, caught}
 use Rattle.machine.specs.Leaves.{codeIn, walk, stored, elementOf, setElement}
 use Rattle.machine.proofs.Ending.{the-type}
 use Rattle.stores.specs.Choices.{outward, plainBy, plainValue, echoed}
@@ -78,21 +78,34 @@ module _ (b : List ℕ) (c : ℕ) where
 
 -- what the code knows of an answer that is no value, by the variants that are left
 abbrev pub NoValue : Ending → Type 0
-NoValue e = (tagOf the-type e ≡ 1) ⊎ ((tagOf the-type e ≡ 2) ⊎ (tagOf the-type e ≡ 3))
+NoValue e = (tagOf the-type e ≡ 1) ⊎ ((tagOf the-type e ≡ 2) ⊎ ((tagOf the-type e ≡ 3) ⊎ (tagOf the-type e ≡ 4)))
+
+no-value : (t x : ℕ) → NoValue (Value t x) → ⊥
+no-value t x h = ⊎-elim (λ q. omega (arith, q)) (⊎-elim (λ q. omega (arith, q)) (⊎-elim (λ q. omega (arith, q)) λ q. omega (arith, q))) h
 
 -- it is passed on
 pub if-not-value : (e : Ending) → NoValue e → (k : ℕ → ℕ → Ending) → e ≡ ifValue e k
-if-not-value (Value t x) h k = ⊎-elim (λ q. absurd (omega arith)) (⊎-elim (λ q. absurd (omega arith)) λ q. absurd (omega arith)) h
+if-not-value (Value t x) h k = absurd (no-value t x h)
 if-not-value (Stop n p) h k = refl
 if-not-value (Unset p q) h k = refl
+if-not-value (Returned t x) h k = refl
 if-not-value NoRule h k = refl
 
 -- the same for an answer with the tables
 pub not-value : (e : Ending) → NoValue e → (m : Tables) (k : ℕ → ℕ → Tables → Ret) → is e m ≡ onValue e m k
-not-value (Value t x) h m k = ⊎-elim (λ q. absurd (omega arith)) (⊎-elim (λ q. absurd (omega arith)) λ q. absurd (omega arith)) h
+not-value (Value t x) h m k = absurd (no-value t x h)
 not-value (Stop n p) h m k = refl
 not-value (Unset p q) h m k = refl
+not-value (Returned t x) h m k = refl
 not-value NoRule h m k = refl
+
+-- what is neither a value nor returned is not caught
+pub not-caught : (e : Ending) → (tagOf the-type e ≡ 1) ⊎ ((tagOf the-type e ≡ 2) ⊎ (tagOf the-type e ≡ 4)) → e ≡ caught e
+not-caught (Value t x) h = ⊎-elim (λ q. absurd (omega arith)) (⊎-elim (λ q. absurd (omega arith)) λ q. absurd (omega arith)) h
+not-caught (Stop n p) h = refl
+not-caught (Unset p q) h = refl
+not-caught (Returned t x) h = ⊎-elim (λ q. absurd (omega arith)) (⊎-elim (λ q. absurd (omega arith)) λ q. absurd (omega arith)) h
+not-caught NoRule h = refl
 
 -- ---- blocks of cells
 

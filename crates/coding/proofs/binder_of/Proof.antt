@@ -35,7 +35,16 @@ returns-4 c = rw (le-ltb _ 2 (c .before .before .before .if1 .left), le-ltb _ 8 
 
 returns-5 : tie.Need-returns-5
 unfolding binderOf isParam pick
-returns-5 c = rw (le-ltb _ 2 (c .before .before .before .if1 .left), le-ltb _ 8 (c .before .before .if2 .left), ne-eqb _ 13 (c .before .if3 .left), ne-eqb _ 14 (c .if4 .left))
+returns-5 c = rw (le-ltb _ 2 (c .before .before .before .before .if1 .left), le-ltb _ 8 (c .before .before .before .if2 .left), ne-eqb _ 13 (c .before .before .if3 .left), ne-eqb _ 14 (c .before .if4 .left), lt-ltb _ 32 (c .if5 .taken))
+
+add-result-4 : tie.Need-add-result-4
+add-result-4 c = search needs
+
+returns-6 : tie.Need-returns-6
+unfolding binderOf isParam pick
+returns-6 c = rw (le-ltb _ 2 (c .before .before .before .before .if1 .left), le-ltb _ 8 (c .before .before .before .if2 .left), ne-eqb _ 13 (c .before .before .if3 .left), ne-eqb _ 14 (c .before .if4 .left), le-ltb _ 32 (c .if5 .left), add-one)
 
 pub binder-of-spec : {M : Type 1} → statement M
-binder-of-spec = tie.close (tie.spec returns add-result returns-2 add-result-2 returns-3 add-result-3 returns-4 returns-5)
+binder-of-spec =
+    tie.close
+    (tie.spec returns add-result returns-2 add-result-2 returns-3 add-result-3 returns-4 returns-5 add-result-4 returns-6)

@@ -12,6 +12,9 @@ add-result c = search needs
 add-result-2 : tie.Need-add-result-2
 add-result-2 c = search needs
 
+add-result-3 : tie.Need-add-result-3
+add-result-3 c = search needs
+
 returns : tie.Need-returns
 unfolding ownBinder pick
 returns c = rw (c .match .keys1, add-one)
@@ -22,7 +25,12 @@ returns-2 c = rw (c .match .keys2, add-one)
 
 returns-3 : tie.Need-returns-3
 unfolding ownBinder pick
-returns-3 c = rw (ne-eqb _ 4 (c .match .rest .0 .1), ne-eqb _ 7 (c .match .rest .1))
+returns-3 c = rw (c .match .keys3, add-one)
+
+returns-4 : tie.Need-returns-4
+unfolding ownBinder pick
+returns-4 c = rw (ne-eqb _ 4 (c .match .rest .0 .0 .1), ne-eqb _ 7 (c .match .rest .0 .1), ne-eqb _ 33 (c .match .rest .1))
 
 pub own-binder-spec : {M : Type 1} → statement M
-own-binder-spec = tie.close (tie.spec add-result add-result-2 returns returns-2 returns-3)
+own-binder-spec =
+    tie.close (tie.spec add-result add-result-2 add-result-3 returns returns-2 returns-3 returns-4)

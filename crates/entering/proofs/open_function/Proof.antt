@@ -1,5 +1,6 @@
-use mathlib.Core.Path.{refl, _∙_}
-use Rattle.entering.proofs.Laws.{function-plain, function-named, function-none}
+-- Written by tools/prove from Proof.tmpl.
+use mathlib.Core.Path.{_∙_}
+use Rattle.entering.proofs.Laws.{function-plain, function-named, function-other}
 use borrow.Author.Needs.{needs}
 use Rattle.entering.proofs.open_function.Statement.{statement}
 use Rattle.entering.proofs.open_function.Tie as tie
@@ -22,31 +23,36 @@ next-at-requires-2 c κs = search needs
 enter-named-requires : tie.Need-enter-named-requires
 enter-named-requires c κs = search needs
 
+open-procedure-requires : tie.Need-open-procedure-requires
+open-procedure-requires c κs = search needs
+
 same-length : tie.Need-same-length
 same-length c = search needs
 
 returns : tie.Need-returns
-returns c =
-    let enter-call = c .before .before .enter-call in let c₁ = c .before .before .before in let env-of = c₁ .env-of in
-    let arms = c₁ .before .before .match in let node-of = c₁ .before .before .before .node-of in (
-      (λ v k o. enter-call .ensures .0 v k o ∙ function-plain _ _ _ _ _ _ _ _ (node-of .ensures) (arms .keys1) _ (env-of .ensures)),
-      enter-call .ensures .1,
-    )
+returns c = (
+  (λ v k o. c .before .before .enter-call .ensures .0 v k o ∙ function-plain _ _ _ _ _ _ _ _ (c .before .before .before .before .before .before .node-of .ensures) (c .before .before .before .before .before .match .keys1) _ (c .before .before .before .env-of .ensures)),
+  c .before .before .enter-call .ensures .1,
+)
 
 same-length-2 : tie.Need-same-length-2
 same-length-2 c = search needs
 
 returns-2 : tie.Need-returns-2
-returns-2 c =
-    let enter-named = c .before .before .enter-named in let c₁ = c .before .before .before .before in let next-at2 = c₁ .next-at2 in
-    let next-at = c₁ .before .next-at in let arms = c₁ .before .before .match in let node-of = c₁ .before .before .before .node-of in (
-      (λ v k o. enter-named .ensures .0 v k o ∙ function-named _ _ _ _ _ _ _ _ (node-of .ensures) (arms .keys2) _ _ (next-at .ensures)
-          (next-at2 .ensures)),
-      enter-named .ensures .1,
-    )
+returns-2 c = (
+  (λ v k o. c .before .before .enter-named .ensures .0 v k o ∙
+      function-named _ _ _ _ _ _ _ _ (c .before .before .before .before .before .before .before .node-of .ensures) (c .before .before .before .before .before .before .match .keys2) _ _ (c .before .before .before .before .before .next-at .ensures) (c .before .before .before .before .next-at2 .ensures)),
+  c .before .before .enter-named .ensures .1,
+)
+
+same-length-3 : tie.Need-same-length-3
+same-length-3 c = search needs
 
 returns-3 : tie.Need-returns-3
-returns-3 c = ((λ v k o. function-none _ _ _ _ _ _ _ (c .match .rest .0 .1) (c .match .rest .1)), refl)
+returns-3 c = (
+  (λ v k o. c .before .before .open-procedure .ensures .0 v k o ∙ function-other _ _ _ _ _ _ _ (c .before .before .before .before .match .rest .0 .1) (c .before .before .before .before .match .rest .1)),
+  c .before .before .open-procedure .ensures .1,
+)
 
 pub open-function-spec : {M : Type 1} → statement M
 open-function-spec =
@@ -58,8 +64,10 @@ open-function-spec =
     next-at-requires
     next-at-requires-2
     enter-named-requires
+    open-procedure-requires
     same-length
     returns
     same-length-2
     returns-2
+    same-length-3
     returns-3)

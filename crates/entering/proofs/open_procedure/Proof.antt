@@ -1,3 +1,4 @@
+-- Written by tools/prove from Proof.tmpl.
 use mathlib.Core.Path.{refl, _∙_}
 use Rattle.entering.proofs.Laws.{procedure-plain, procedure-named, procedure-none}
 use borrow.Author.Needs.{needs}
@@ -16,6 +17,9 @@ enter-call-requires c κs = search needs
 next-at-requires : tie.Need-next-at-requires
 next-at-requires c κs = search needs
 
+behind-type-requires : tie.Need-behind-type-requires
+behind-type-requires c κs = search needs
+
 enter-named-requires : tie.Need-enter-named-requires
 enter-named-requires c κs = search needs
 
@@ -23,23 +27,20 @@ same-length : tie.Need-same-length
 same-length c = search needs
 
 returns : tie.Need-returns
-returns c =
-    let enter-call = c .before .before .enter-call in let c₁ = c .before .before .before in let env-of = c₁ .env-of in
-    let arms = c₁ .before .before .match in let node-of = c₁ .before .before .before .node-of in (
-      (λ v k o. enter-call .ensures .0 v k o ∙ procedure-plain _ _ _ _ _ _ _ _ (node-of .ensures) (arms .keys1) _ (env-of .ensures)),
-      enter-call .ensures .1,
-    )
+returns c = (
+  (λ v k o. c .before .before .enter-call .ensures .0 v k o ∙ procedure-plain _ _ _ _ _ _ _ _ (c .before .before .before .before .before .before .node-of .ensures) (c .before .before .before .before .before .match .keys1) _ (c .before .before .before .env-of .ensures)),
+  c .before .before .enter-call .ensures .1,
+)
 
 same-length-2 : tie.Need-same-length-2
 same-length-2 c = search needs
 
 returns-2 : tie.Need-returns-2
-returns-2 c =
-    let enter-named = c .before .before .enter-named in let c₁ = c .before .before .before .before in let next-at = c₁ .next-at in
-    let arms = c₁ .before .match in let node-of = c₁ .before .before .node-of in (
-      (λ v k o. enter-named .ensures .0 v k o ∙ procedure-named _ _ _ _ _ _ _ _ (node-of .ensures) (arms .keys2) _ (next-at .ensures)),
-      enter-named .ensures .1,
-    )
+returns-2 c = (
+  (λ v k o. c .before .before .enter-named .ensures .0 v k o ∙
+      procedure-named _ _ _ _ _ _ _ _ (c .before .before .before .before .before .before .before .node-of .ensures) (c .before .before .before .before .before .before .match .keys2) _ _ (c .before .before .before .before .before .next-at .ensures) (c .before .before .before .before .behind-type .ensures)),
+  c .before .before .enter-named .ensures .1,
+)
 
 returns-3 : tie.Need-returns-3
 returns-3 c = ((λ v k o. procedure-none _ _ _ _ _ _ _ (c .match .rest .0 .1) (c .match .rest .1)), refl)
@@ -52,6 +53,7 @@ open-procedure-spec =
     env-of-requires
     enter-call-requires
     next-at-requires
+    behind-type-requires
     enter-named-requires
     same-length
     returns
