@@ -106,7 +106,10 @@ enum mahrullis_kind {
     MAHRULLIS_KIND_ALLOC = 27,
     MAHRULLIS_KIND_NTH = 28,
     MAHRULLIS_KIND_LEN = 29,
-    MAHRULLIS_KIND_VSET = 30
+    MAHRULLIS_KIND_VSET = 30,
+    MAHRULLIS_KIND_RETURN = 31,
+    MAHRULLIS_KIND_FUN_BLOCK = 32,    /* FUN whose body is a block */
+    MAHRULLIS_KIND_FUN_REC_BLOCK = 33 /* FUN REC whose body is a block */
 };
 
 /* CHECK: is the text a program whose types hold? Answers an enum mahrullis_answer and writes report[0] to report[6]: the answer, its place, and five zeros.

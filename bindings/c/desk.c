@@ -44,6 +44,10 @@ static const struct script scripts[] = {
     { "[ECHO (nth (alloc int 3) 3)]", GREATEST, { MAHRULLIS_INDEX, 6, 5, 0, 3, 0, 0 }, { 0 } },
     { "[ECHO (nth (alloc int 3) 0)]", GREATEST, { MAHRULLIS_UNSET, 6, 5, 0, 3, 0, 11 }, { 0 } },
     { "[CONST v (vec (int -> int)) y; ECHO 1]", GREATEST, { MAHRULLIS_TYPE, 9, 0, 0, 0, 0, 0 }, { 0 } },
+    { "[FUN REC f int [n:int] [IF (lt n 1) [RETURN 0] [RETURN (add n (f (sub n 1)))]]; ECHO (f 3)]", GREATEST, { MAHRULLIS_DONE, 0, 47, 9, 0, 1, 0 }, { 6 } },
+    { "[FUN f int [n:int] [RETURN 1; ECHO 2]; ECHO 1]", GREATEST, { MAHRULLIS_SYNTAX, 28, 0, 0, 0, 0, 0 }, { 0 } },
+    { "[FUN f int [n:int] [ECHO 1]; ECHO 1]", GREATEST, { MAHRULLIS_TYPE, 1, 0, 0, 0, 0, 0 }, { 0 } },
+    { "[RETURN 1]", GREATEST, { MAHRULLIS_TYPE, 0, 0, 0, 0, 0, 0 }, { 0 } },
 };
 
 static struct mahrullis_tables tables, before;

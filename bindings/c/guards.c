@@ -205,7 +205,7 @@ static void expect_tree(void) {
     hold(count >= 3 && mahrullis_node_kind(tree[0]) == MAHRULLIS_KIND_BLOCK && mahrullis_node_sibling(tree[0]) == 0, "the root is a block");
     for (size_t i = 0; i < count; i++) {
         size_t child = mahrullis_node_child(tree[i]), sibling = mahrullis_node_sibling(tree[i]);
-        hold(mahrullis_node_kind(tree[i]) >= 1 && mahrullis_node_kind(tree[i]) <= MAHRULLIS_KIND_VSET, "a node's kind");
+        hold(mahrullis_node_kind(tree[i]) >= 1 && mahrullis_node_kind(tree[i]) <= MAHRULLIS_KIND_FUN_REC_BLOCK, "a node's kind");
         hold(mahrullis_node_place(tree[i]) < text_length, "a node's place");
         hold(i == 0 || mahrullis_node_place(tree[i - 1]) < mahrullis_node_place(tree[i]), "nodes stand in text order");
         hold(child == 0 || child == i + 1, "a first child follows its parent");

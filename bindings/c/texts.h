@@ -65,20 +65,26 @@ static const char *const whole_scripts[] = {
     "[VAR i int; SET i 0; CONST b (vec int) (alloc int 3); WHILE true [SET i (add 1 (nth (vset b i i) i))]]",
     "[PROC REC p [b:(vec int)] [CALL p (alloc int (len b))]; CALL p (alloc int 700)]",
     "[FUN f int [b:(vec (int -> int))] 1; ECHO 1]",
+    "[FUN f int [n:int] [VAR i int; SET i 0; WHILE true [IF (lt n i) [RETURN i] [SET i (add i 1)]]; RETURN 0]; ECHO (f 3)]",
+    "[FUN REC f int [n:int] [IF (lt n 1) [RETURN 0] [RETURN (add n (f (sub n 1)))]]; ECHO (f 30)]",
+    "[FUN f (int -> int) [n:int] [ECHO n; CONST m int (mul n 2); RETURN [k:int] (sub m k)]; ECHO ((f 9) 4)]",
+    "[FUN f int [n:int] [IF true [RETURN 1] [ECHO 2]; ECHO 3]; ECHO 1]",
+    "[PROC p [n:int] [IF true [RETURN 1] [ECHO 1]]; CALL p 1]",
     "12ab 1-2 -> - > 007 VARx var adr\t(adr",
 };
 
 static const char *const words[] = {
     "[", "]", "(", ")", ";", ":", ",", "*", "->", "CONST", "FUN", "REC", "VAR", "PROC", "ECHO", "SET", "IF", "WHILE", "CALL", "if", "and", "or", "bool", "int",
     "var", "adr", "true", "false", "not", "eq", "lt", "add", "sub", "mul", "div", "x", "y", "f", "n", "p", "0", "1", "-1", "42", "9223372036854775807", "-9223372036854775808",
-    "9223372036854775808", "fare2", "ECHO 1;", "[ECHO x]", "(add x 1)", "[n:int]", "(int -> int)", "vec", "alloc", "nth", "len", "vset", "(vec int)", "(alloc int 2)",
+    "9223372036854775808", "fare2", "ECHO 1;", "[ECHO x]", "(add x 1)", "[n:int]", "(int -> int)", "vec", "alloc", "nth", "len", "vset", "(vec int)", "(alloc int 2)", "RETURN", "[RETURN n]",
 };
 
 /* In this order they hold; where one is left out, what needs it is a TYPE. */
 static const char *const definitions[] = {
     "CONST k int 7", "VAR x int", "VAR b bool", "FUN f int [n:int] (add n (mul k 2))", "FUN REC g int [n:int] (if (lt n 1) 0 (add n (g (sub n 1))))",
     "PROC p [var v:int, n:int] [SET v (add v n)]", "PROC REC q [n:int] [VAR c int; SET c n; ECHO c; IF (lt 0 n) [CALL q (sub c 1)] [ECHO 0]]",
-    "FUN h int [t:(int -> int), n:int] (t (t n))", "FUN w int [a:int, b:int, c:int, d:int] (sub (add a b) (add c d))", "CONST v (vec int) (alloc int k)", "SET x 3", "SET b true",
+    "FUN h int [t:(int -> int), n:int] (t (t n))", "FUN w int [a:int, b:int, c:int, d:int] (sub (add a b) (add c d))", "CONST v (vec int) (alloc int k)",
+    "FUN r int [n:int] [IF (lt n k) [RETURN n] [ECHO n]; RETURN (sub n k)]", "SET x 3", "SET b true",
 };
 
 static const char *const statements[] = {
@@ -86,6 +92,7 @@ static const char *const statements[] = {
     "WHILE (lt x 20) [SET x (add x 5)]", "IF b [ECHO 1] [ECHO 2]", "SET b (eq x 3)", "ECHO (div k (sub x 3))", "ECHO (mul 281474976710656 (mul k 9999))", "ECHO (g 300)",
     "WHILE true [SET x 1]", "CALL q 30", "ECHO (w 1 x k (g 2))", "IF (or b (lt x 2)) [VAR y int; ECHO y] [ECHO (sub 0 x)]", "ECHO ([a:int, b:int] (mul a b) x k)",
     "ECHO (len (vset v x k))", "ECHO (nth v 3)", "ECHO (nth (vset v 0 x) 0)", "ECHO (len (alloc bool (sub k x)))", "WHILE (lt x 9) [SET x (add (nth (vset v x x) x) 1)]",
+    "ECHO (r x)", "ECHO (h r 20)",
 };
 
 static uint64_t random_state;

@@ -28,6 +28,39 @@ struct Binder {
     binds: Binds,
 }
 
+/// What commands return: nothing, a value of this type or nothing, or always one.
+#[derive(Clone, Copy, PartialEq, Eq)]
+enum Flow {
+    Never,
+    May(Type),
+    Always(Type),
+}
+
+impl Flow {
+    /// The type of what is returned, if anything is.
+    fn returns(self) -> Option<Type> {
+        match self {
+            Flow::Never => None,
+            Flow::May(t) | Flow::Always(t) => Some(t),
+        }
+    }
+
+    /// Where it may happen and may not.
+    fn perhaps(self) -> Flow {
+        self.returns().map_or(Flow::Never, Flow::May)
+    }
+
+    /// Of an IF's two blocks; none where they return two types.
+    fn either(self, other: Flow) -> Option<Flow> {
+        match (self.returns(), other.returns()) {
+            _ if self == other => Some(self),
+            (Some(a), Some(b)) if a != b => None,
+            (Some(t), _) | (_, Some(t)) => Some(Flow::May(t)),
+            _ => Some(Flow::Never),
+        }
+    }
+}
+
 /// What is kept while a text is judged.
 #[derive(Default)]
 pub struct Scratch {
@@ -92,7 +125,8 @@ impl<'a> Checker<'a> {
 
     /// The program's block, and how many slots its frame has.
     pub fn program(&mut self) -> Judged<(Block, u16)> {
-        let block = self.block(0)?;
+        let (block, flow) = self.block(0)?;
+        must(flow == Flow::Never, self.node(0))?;
         Ok((block, self.place.slots))
     }
 
@@ -186,24 +220,60 @@ impl<'a> Checker<'a> {
 
     // ---- commands
 
-    fn block(&mut self, i: u16) -> Judged<Block> {
+    fn block(&mut self, i: u16) -> Judged<(Block, Flow)> {
         let (binders, commands, slot) = (self.scratch.binders.len(), self.scratch.commands.len(), self.place.slot);
         let mut next = self.node(i).child;
+        // of the command before, and whether all that may return go together so far
+        let (mut flow, mut may, mut agree) = (Flow::Never, None, true);
         while next != 0 {
             let node = self.node(next);
-            let kind = self.command(node)?;
+            let (kind, own) = self.command(node)?;
+            // one that always returns stands last
+            must(node.next == 0 || !matches!(own, Flow::Always(_)), node)?;
+            flow = own;
+            if let Some(t) = own.returns() {
+                agree &= !may.replace(t).is_some_and(|before| before != t);
+            }
             self.scratch.commands.push(Command { place: node.place, kind });
             next = node.next;
         }
+        // behind one that may return, the last returns too
+        must(agree && may == flow.returns(), self.node(i))?;
         let from = self.code.commands.len() as u16;
         self.code.commands.extend(self.scratch.commands.drain(commands..));
         self.unbind(binders);
         self.place.slot = slot;
-        Ok(Block { from, to: self.code.commands.len() as u16 })
+        Ok((Block { from, to: self.code.commands.len() as u16 }, flow))
     }
 
-    fn command(&mut self, node: Node) -> Judged<CommandKind> {
+    fn command(&mut self, node: Node) -> Judged<(CommandKind, Flow)> {
         let first = self.node(node.child);
+        match node.kind {
+            Kind::IfStatement => {
+                let (e, t) = self.expr(node.child)?;
+                let (yes, left) = self.block(first.next)?;
+                let (no, right) = self.block(self.node(first.next).next)?;
+                match left.either(right) {
+                    Some(flow) if t == BOOL => Ok((CommandKind::If(e, yes, no), flow)),
+                    _ => refuse(TYPE, node),
+                }
+            }
+            Kind::While => {
+                let (e, t) = self.expr(node.child)?;
+                let (body, flow) = self.block(first.next)?;
+                must(t == BOOL, node)?;
+                Ok((CommandKind::While(e, body), flow.perhaps()))
+            }
+            Kind::Return => {
+                let (e, t) = self.expr(node.child)?;
+                Ok((CommandKind::Return(e), Flow::Always(t)))
+            }
+            _ => Ok((self.plain_command(node, first)?, Flow::Never)),
+        }
+    }
+
+    /// A command that returns nothing.
+    fn plain_command(&mut self, node: Node, first: Node) -> Judged<CommandKind> {
         match node.kind {
             Kind::Const => {
                 let written = self.written_type(first.next)?;
@@ -211,7 +281,7 @@ impl<'a> Checker<'a> {
                 must(is_free(first.info) && t == written, node)?;
                 Ok(CommandKind::Const(self.bind(first.info, Binds::Value(t)), e))
             }
-            Kind::Fun | Kind::FunRec => self.function(node, first),
+            Kind::Fun | Kind::FunRec | Kind::FunBlock | Kind::FunRecBlock => self.function(node, first),
             Kind::Var => {
                 let t = self.written_type(first.next)?;
                 must(is_free(first.info) && is_plain(t), node)?;
@@ -229,19 +299,6 @@ impl<'a> Checker<'a> {
                     Some((binder, stored)) if stored == t => Ok(CommandKind::Set(self.at(binder), e)),
                     _ => refuse(TYPE, node),
                 }
-            }
-            Kind::IfStatement => {
-                let (e, t) = self.expr(node.child)?;
-                let yes = self.block(first.next)?;
-                let no = self.block(self.node(first.next).next)?;
-                must(t == BOOL, node)?;
-                Ok(CommandKind::If(e, yes, no))
-            }
-            Kind::While => {
-                let (e, t) = self.expr(node.child)?;
-                let body = self.block(first.next)?;
-                must(t == BOOL, node)?;
-                Ok(CommandKind::While(e, body))
             }
             _ => self.call(node, first),
         }
@@ -299,7 +356,7 @@ impl<'a> Checker<'a> {
 
     fn function(&mut self, node: Node, name: Node) -> Judged<CommandKind> {
         let (binders, parts) = (self.scratch.binders.len(), self.scratch.parts.len());
-        let recursive = node.kind == Kind::FunRec;
+        let recursive = matches!(node.kind, Kind::FunRec | Kind::FunRecBlock);
         let result = self.written_type(name.next)?;
         let outside = self.enter();
         let (params, body) = self.params(self.node(name.next).next)?;
@@ -308,10 +365,16 @@ impl<'a> Checker<'a> {
         if recursive && is_free(name.info) {
             self.bind(name.info, Binds::Value(whole));
         }
-        let (e, t) = self.expr(body)?;
-        must(is_free(name.info) && t == result, node)?;
+        let (code, flow) = if matches!(node.kind, Kind::FunBlock | Kind::FunRecBlock) {
+            let (block, flow) = self.block(body)?;
+            (Body::Block(block), flow)
+        } else {
+            let (e, t) = self.expr(body)?;
+            (Body::Expr(e), Flow::Always(t))
+        };
+        must(is_free(name.info) && flow == Flow::Always(result), node)?;
         self.unbind(binders);
-        let function = self.leave(outside, params, recursive, Body::Expr(e));
+        let function = self.leave(outside, params, recursive, code);
         Ok(CommandKind::Define(self.bind(name.info, Binds::Value(whole)), function))
     }
 
@@ -326,8 +389,8 @@ impl<'a> Checker<'a> {
         if recursive && is_free(name.info) {
             self.bind(name.info, whole);
         }
-        let block = self.block(body)?;
-        must(is_free(name.info), node)?;
+        let (block, flow) = self.block(body)?;
+        must(is_free(name.info) && flow == Flow::Never, node)?;
         self.unbind(binders);
         let function = self.leave(outside, params, recursive, Body::Block(block));
         Ok(CommandKind::Define(self.bind(name.info, whole), function))

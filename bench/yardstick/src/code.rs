@@ -92,6 +92,7 @@ pub enum CommandKind {
     If(ExprId, Block, Block),
     While(ExprId, Block),
     Call(At, Arguments),
+    Return(ExprId),
 }
 
 #[derive(Clone, Copy)]

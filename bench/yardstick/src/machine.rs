@@ -13,6 +13,9 @@ struct Stopped;
 
 type Ran<T> = Result<T, Stopped>;
 
+/// What commands returned, none where they ran to their end.
+type Returned = Option<i64>;
+
 /// The vectors that a run fills.
 #[derive(Default)]
 pub struct Room {
@@ -255,7 +258,7 @@ impl<'a> Machine<'a> {
                 let head = self.expr(head, frame, depth)?;
                 match self.call(head, arguments, place, frame, depth)? {
                     (inner, Body::Expr(body)) => self.expr(body, inner, depth),
-                    (_, Body::Block(_)) => unreachable!("a head that is applied is a function"),
+                    (inner, Body::Block(body)) => Ok(self.block(body, inner, depth)?.expect("a function's block returns")),
                 }
             }
             ExprKind::Closure(function) => Ok(closure(function, frame)),
@@ -302,34 +305,53 @@ impl<'a> Machine<'a> {
 
     // ---- commands
 
-    fn block(&mut self, block: Block, frame: usize, depth: u32) -> Ran<()> {
+    fn block(&mut self, block: Block, frame: usize, depth: u32) -> Ran<Returned> {
         for i in block.from..block.to {
             let Command { place, kind } = self.code.commands[usize::from(i)];
-            match kind {
+            let returned = match kind {
                 CommandKind::While(condition, body) => self.rounds(condition, body, place, frame, depth)?,
                 _ => {
                     let depth = self.enter(depth, place)?;
-                    self.command(kind, place, frame, depth)?;
+                    self.command(kind, place, frame, depth)?
                 }
+            };
+            if returned.is_some() {
+                return Ok(returned);
             }
         }
-        Ok(())
+        Ok(None)
     }
 
     /// A WHILE is entered anew for each round, and once to leave.
-    fn rounds(&mut self, condition: ExprId, body: Block, place: u16, frame: usize, above: u32) -> Ran<()> {
+    fn rounds(&mut self, condition: ExprId, body: Block, place: u16, frame: usize, above: u32) -> Ran<Returned> {
         loop {
             let depth = self.enter(above, place)?;
             if self.expr(condition, frame, depth)? == 0 {
-                return Ok(());
+                return Ok(None);
             }
-            self.block(body, frame, depth)?;
+            let returned = self.block(body, frame, depth)?;
+            if returned.is_some() {
+                return Ok(returned);
+            }
         }
     }
 
     /// Any command but a WHILE, once it is entered.
     #[inline(always)]
-    fn command(&mut self, kind: CommandKind, place: u16, frame: usize, depth: u32) -> Ran<()> {
+    fn command(&mut self, kind: CommandKind, place: u16, frame: usize, depth: u32) -> Ran<Returned> {
+        match kind {
+            CommandKind::If(e, yes, no) => {
+                let chosen = if self.expr(e, frame, depth)? != 0 { yes } else { no };
+                self.block(chosen, frame, depth)
+            }
+            CommandKind::Return(e) => self.expr(e, frame, depth).map(Some),
+            _ => self.plain_command(kind, place, frame, depth).map(|()| None),
+        }
+    }
+
+    /// One that returns nothing.
+    #[inline(always)]
+    fn plain_command(&mut self, kind: CommandKind, place: u16, frame: usize, depth: u32) -> Ran<()> {
         match kind {
             CommandKind::Const(slot, e) => {
                 let value = self.expr(e, frame, depth)?;
@@ -358,11 +380,7 @@ impl<'a> Machine<'a> {
                 self.room.cells[cell as usize] = Some(value);
                 Ok(())
             }
-            CommandKind::If(e, yes, no) => {
-                let chosen = if self.expr(e, frame, depth)? != 0 { yes } else { no };
-                self.block(chosen, frame, depth)
-            }
-            CommandKind::While(..) => unreachable!("its rounds are entered one by one"),
+            CommandKind::If(..) | CommandKind::While(..) | CommandKind::Return(..) => unreachable!("they may return"),
             CommandKind::Call(at, arguments) => {
                 let frames = self.room.frames.len();
                 let head = self.outer(frame, at);

@@ -34,6 +34,10 @@ pub enum Kind {
     Nth,
     Len,
     Vset,
+    Return,
+    /// FUN and FUN REC whose body is a block.
+    FunBlock,
+    FunRecBlock,
 }
 
 /// A node; as child or sibling 0 means none, for node 0 is nobody's.

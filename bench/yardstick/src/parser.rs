@@ -121,9 +121,32 @@ impl<'a> Parser<'a> {
                         return Ok(parent);
                     }
                 }
+                Kind::Return => {
+                    let last = self.returned()?;
+                    self.link(&mut row, last);
+                    self.close(Kind::CloseSquare)?;
+                    return Ok(parent);
+                }
                 _ => return self.refuse(SYNTAX),
             }
         }
+    }
+
+    fn returned(&mut self) -> Read<usize> {
+        let parent = self.node(nodes::Kind::Return, self.at);
+        self.at += 1;
+        let value = self.expr()?;
+        self.nodes[parent].child = value as u16;
+        Ok(parent)
+    }
+
+    /// Whether a function's body is a block: an abstraction has a name behind its `[`.
+    fn starts_block(&self) -> bool {
+        let commands = |kind| {
+            use Kind::{Call, Const, Echo, Fun, IfStatement, Proc, Return, Set, Var, While};
+            matches!(kind, Const | Fun | Var | Proc | Echo | Set | IfStatement | While | Call | Return)
+        };
+        self.peek() == Kind::OpenSquare && commands(self.words[self.at + 1].kind)
     }
 
     fn definition(&mut self) -> Read<usize> {
@@ -152,9 +175,14 @@ impl<'a> Parser<'a> {
             _ => {
                 self.take(Kind::OpenSquare)?;
                 self.params(&mut row, word == Kind::Proc)?;
-                if word == Kind::Fun {
+                if word == Kind::Fun && !self.starts_block() {
                     self.expr()?
                 } else {
+                    self.nodes[parent].kind = match kind {
+                        nodes::Kind::Fun => nodes::Kind::FunBlock,
+                        nodes::Kind::FunRec => nodes::Kind::FunRecBlock,
+                        _ => kind,
+                    };
                     self.block()?
                 }
             }

@@ -1,9 +1,10 @@
-//! Edges of the language: numbers at the ends of their range, division that rounds down, parameters of one name, blocks of cells, what UNSET names.
+//! Edges of the language: numbers at the ends of their range, division that rounds down, parameters of one name, blocks of cells, what UNSET names, functions whose body is a block.
 #![forbid(unsafe_code)]
 
 use yardstick::{Limits, Yardstick};
 
 const NUMBER: u8 = 5;
+const SYNTAX: u8 = 7;
 const TYPE: u8 = 9;
 const DOUBLE: u8 = 10;
 const CELLS: u8 = 22;
@@ -114,4 +115,36 @@ fn blocks_of_cells() {
     ends("[ECHO @(nth (alloc bool 1) true)]", TYPE);
     ends("[ECHO @(len 1)]", TYPE);
     ends("[ECHO (len @(vset (alloc int 1) 0 true))]", TYPE);
+}
+
+/// A program whose numbers are put out.
+fn puts_out(text: &str, numbers: &[i64]) {
+    let mut yardstick = Yardstick::new();
+    let report = yardstick.run(text.as_bytes(), Limits::GREATEST);
+    assert_eq!((report.code, yardstick.numbers()), (0, numbers), "{text}");
+}
+
+#[test]
+fn functions_whose_body_is_a_block() {
+    puts_out("[FUN f int [n:int] [RETURN (add n 1)]; ECHO (f 2)]", &[3]);
+    puts_out("[FUN REC f int [n:int] [IF (lt n 1) [RETURN 0] [RETURN (add n (f (sub n 1)))]]; ECHO (f 3)]", &[6]);
+    puts_out("[FUN f int [n:int] [VAR i int; SET i 0; WHILE true [IF (lt n i) [RETURN i] [SET i (add i 1)]]; RETURN 0]; ECHO (f 3)]", &[4]);
+    puts_out("[FUN f (int -> int) [n:int] [ECHO n; RETURN [m:int] (sub n m)]; ECHO ((f 9) 4)]", &[9, 5]);
+    puts_out("[FUN f (int -> int) [n:int] [m:int] m; ECHO ((f 9) 4)]", &[4]);
+    // RETURN stands last
+    ends("[FUN f int [n:int] [RETURN 1@; ECHO 2]; ECHO 1]", SYNTAX);
+    ends("[FUN f int [n:int] [ECHO 1; CONST x int 1@]; ECHO 1]", SYNTAX);
+    ends("[FUN f int [@var n:int] [RETURN 1]; ECHO 1]", SYNTAX);
+    // one that always returns stands last, and what follows one that may returns the same
+    ends("[FUN f int [n:int] [@IF true [RETURN 1] [RETURN 2]; RETURN 3]; ECHO 1]", TYPE);
+    ends("[FUN f int [n:int] @[IF true [RETURN 1] [ECHO 2]; ECHO 3]; ECHO 1]", TYPE);
+    ends("[FUN f int [n:int] @[IF true [RETURN true] [ECHO 2]; RETURN 3]; ECHO 1]", TYPE);
+    ends("[FUN f int [n:int] [@IF true [RETURN true] [RETURN 1]]; ECHO 1]", TYPE);
+    // a function's block always returns its type, a procedure's and the program's never
+    ends("[@FUN f int [n:int] [ECHO 1]; ECHO 1]", TYPE);
+    ends("[@FUN f int [n:int] [WHILE true [RETURN 1]]; ECHO 1]", TYPE);
+    ends("[@FUN f int [n:int] [RETURN true]; ECHO 1]", TYPE);
+    ends("[@PROC p [n:int] [IF true [RETURN 1] [ECHO 1]]; ECHO 1]", TYPE);
+    ends("@[RETURN 1]", TYPE);
+    ends("[FUN f int [n:int] [RETURN 1]; @CALL f 1]", TYPE);
 }

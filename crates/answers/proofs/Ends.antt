@@ -1,7 +1,7 @@
 -- The answer to a run's end.
 use mathlib.Core.Path.{_≡_, refl, sym, _∙_, ap}
 use mathlib.Core.Bool.{Bool, true, false}
-use mathlib.Core.Option.{some}
+use mathlib.Core.Option.{none, some}
 use Prim.Native.Nat.{ℕ, _-_}
 use lib.Dec.{eqb}
 use borrow.Author.Tests.{eq-eqb, ne-eqb}
@@ -9,10 +9,9 @@ use Rattle.language.specs.Answers.{FUEL, DEPTH, CELLS, BINDINGS, OUTPUT, Stop, 
 use Rattle.machine.specs.Entries.{pick}
 use Rattle.machine.specs.Shown.{answerOf}
 use Rattle.machine.proofs.Relation.{Plain, plain-limit, plain-range, plain-zero, plain-size, plain-index}
-use Rattle.machine.proofs.Whole.{Known, known-value, known-stop, known-unset, known-none, stop-back}
+use Rattle.machine.proofs.Whole.{Known, known-value, known-stop, known-unset, known-returned, known-none, stop-back}
 use Rattle.machine.specs.declared.Counts.{Counts}
 use Rattle.machine.specs.declared.Ending.{Ending}
-use Rattle.machine.specs.declared.Ending.the-variants.{NoRule}
 use Rattle.machine.specs.declared.Ending.the-variants as E
 use Rattle.answers.specs.declared.Answer.{Answer}
 use Rattle.answers.specs.declared.Answer.the-variants.{«Type»}
@@ -34,10 +33,11 @@ stopped-meant plain-size p = refl
 stopped-meant plain-index p = refl
 
 -- the answer is the end's, where it has one
-pub ended-meant : {e : Ending} → Known e → (e ≡ NoRule → ⊥) → answerOf e ≡ some (meant (ended e))
+pub ended-meant : {e : Ending} → Known e → (answerOf e ≡ none → ⊥) → answerOf e ≡ some (meant (ended e))
 ended-meant known-value n = refl
 ended-meant (known-stop w {p}) n = ap (λ (x : Stop). some (stopped x p)) (stop-back w) ∙ ap some (sym (stopped-meant w p))
 ended-meant known-unset n = refl
+ended-meant known-returned n = absurd (n refl)
 ended-meant known-none n = absurd (n refl)
 
 -- no stop has TYPE's number
@@ -58,10 +58,11 @@ module _ (f : ℕ) (n : Counts) where
   unfolding pick
   tested e h = ap (λ t. pick t (λ _. refusal (ended e)) (λ _. counted f (ended e) n)) h
 
-  pub reported-counts : {e : Ending} → Known e → (e ≡ NoRule → ⊥) → reported f e n ≡ counted f (ended e) n
+  pub reported-counts : {e : Ending} → Known e → (answerOf e ≡ none → ⊥) → reported f e n ≡ counted f (ended e) n
   reported-counts (known-value {t} {x}) k = tested (E.Value t x) refl
   reported-counts (known-stop {w} h {p}) k = tested (E.Stop (stop-number w) p) (ap (λ a. eqb (number-of a) 9) (stopped-meant h p) ∙ not-type h)
   reported-counts (known-unset {p} {q}) k = tested (E.Unset p q) refl
+  reported-counts known-returned k = absurd (k refl)
   reported-counts known-none k = absurd (k refl)
 
 -- ---- what the code tests

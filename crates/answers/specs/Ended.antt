@@ -4,7 +4,7 @@ use lib.Dec.{eqb}
 use Rattle.language.specs.Answers.{number-of}
 use Rattle.machine.specs.Entries.{pick}
 use Rattle.machine.specs.declared.Ending.{Ending}
-use Rattle.machine.specs.declared.Ending.the-variants.{Value, Stop, NoRule}
+use Rattle.machine.specs.declared.Ending.the-variants.{Value, Stop, Returned, NoRule}
 use Rattle.machine.specs.declared.Ending.the-variants as E
 use Rattle.machine.specs.declared.Counts.{Counts}
 use Rattle.answers.specs.declared.Answer.{Answer}
@@ -26,11 +26,12 @@ stopped-by n p =
     pick (eqb n 29) (λ _. Index p) λ _.
     «Type» 0
 
--- a state that no rule fits has no answer, and an accepted text never comes to one: it is refused where no node stands
+-- a program that returns and a state that no rule fits have no answer, and an accepted text never comes to one: what stands here is never given
 abbrev pub ended : Ending → Answer
 ended (Value t x) = Done
 ended (Stop n p) = stopped-by n p
 ended (E.Unset p q) = Unset p q
+ended (Returned t x) = «Type» 0
 ended NoRule = «Type» 0
 
 -- an answer with the counts of a run, with so much fuel at the start

@@ -69,11 +69,15 @@ fn say_tokens() {
     );
 }
 
-// One of the words of blocks of cells, which may be meant as a name.
+// A key word that may be meant as a name.
 fn say_misplaced() {
     lines::text(
         b"this word is no name: vec begins a type, and alloc, nth, len and vset an expression, each right behind its (",
     );
+}
+
+fn say_return_misplaced() {
+    lines::text(b"this word is no name: RETURN and a value stand last in a block");
 }
 
 fn say_no_program() {
@@ -81,8 +85,9 @@ fn say_no_program() {
         b"no program goes on with this word: look before it for a ; or a bracket that is missing or too many;\n",
     );
     lines::text(
-        b"a block ends with ECHO, SET, IF, WHILE or CALL, not with a definition, and nothing follows the last ]",
+        b"a block ends with ECHO, SET, IF, WHILE, CALL or RETURN, not with a definition; nothing follows RETURN in its block,\n",
     );
+    lines::text(b"and nothing the last ]");
 }
 
 // At the text's end something is missing; anywhere else a word does not fit.
@@ -98,6 +103,7 @@ fn say_syntax(text: &[u8], place: usize) {
             NTH => say_misplaced(),
             LEN => say_misplaced(),
             VSET => say_misplaced(),
+            RETURN => say_return_misplaced(),
             _ => say_no_program(),
         }
     }
@@ -112,6 +118,8 @@ fn say_level() {
 
 // The numbers of symbols and key words, as `words` has them.
 const LIST: u8 = 1;
+
+const LIST_END: u8 = 2;
 
 const OPENING: u8 = 3;
 
@@ -152,6 +160,8 @@ const NTH: u8 = 31;
 const LEN: u8 = 32;
 
 const VSET: u8 = 33;
+
+const RETURN: u8 = 34;
 
 // The number of a symbol or a key word, 0 for any other word.
 fn mark_of(found: Found) -> u8 {
@@ -282,6 +292,66 @@ fn say_type_of_call() {
     lines::text(b"(adr x) for a var parameter, a value for any other");
 }
 
+// Whether the body of the function at `place` is a block: its parameters end at the first ], for types have none, and behind an abstraction's [ stands a name.
+fn has_block(text: &[u8], place: usize) -> bool {
+    let mut at = place;
+    let mut left: u64 = 4_096; // a script's words
+    while 0 < left {
+        let words = reader::two_words(text, at);
+        let found = words.first;
+        at = past(found, at);
+        if mark_of(found) == LIST_END {
+            let body = reader::two_words(text, at);
+            let opening = body.first;
+            let behind = body.second;
+            return mark_of(opening) == LIST && mark_of(behind) != 0;
+        }
+        left -= 1;
+    }
+    false
+}
+
+fn say_type_of_function(text: &[u8], place: usize) {
+    if has_block(text, place) {
+        lines::text(
+            b"this function may end without RETURN, or its RETURN gives a value of another type than is written behind its name:\n",
+        );
+        lines::text(b"let its block end with RETURN, or with an IF whose two blocks do;\n");
+    } else {
+        lines::text(b"the body must be of the type that is written behind the function's name;\n");
+    }
+    say_nine();
+}
+
+fn say_type_of_procedure() {
+    lines::text(
+        b"a procedure may not RETURN: define a function by FUN where a value is to come back;\n",
+    );
+    say_nine();
+}
+
+fn say_type_of_if() {
+    lines::text(b"IF needs a bool before its two blocks;\n");
+    lines::text(b"its two blocks may not RETURN values of two types;\n");
+    lines::text(
+        b"and nothing may stand behind an IF whose two blocks always RETURN: it would never be run",
+    );
+}
+
+// The program's block is the first word of its text.
+fn say_type_of_block(text: &[u8], place: usize) {
+    let words = reader::two_words(text, 0);
+    let first = words.first;
+    if start_of(first, 0) == place {
+        lines::text(b"the program may not RETURN: only a function's block may");
+    } else {
+        lines::text(
+            b"a statement of this block may RETURN and may not, so what follows it must RETURN too,\n",
+        );
+        lines::text(b"a value of the same type, up to the block's end");
+    }
+}
+
 // The first word of a node tells its rule.
 fn say_type(text: &[u8], place: usize) {
     let words = reader::two_words(text, place);
@@ -295,22 +365,18 @@ fn say_type(text: &[u8], place: usize) {
             lines::text(b"the value must be of the type that is written before it;\n");
             say_nine();
         }
-        FUN => {
-            lines::text(
-                b"the body must be of the type that is written behind the function's name;\n",
-            );
-            say_nine();
-        }
+        FUN => say_type_of_function(text, place),
         VAR => {
             lines::text(b"a variable must be a bool or an int;\n");
             say_nine();
         }
-        PROC => say_nine(),
+        PROC => say_type_of_procedure(),
         ECHO => lines::text(b"ECHO needs an int, and this is none"),
         SET => lines::text(
             b"SET needs a name that is a VAR or a var parameter here, and a value of its type",
         ),
-        IF => lines::text(b"IF needs a bool before its two blocks"),
+        IF => say_type_of_if(),
+        LIST => say_type_of_block(text, place),
         WHILE => lines::text(b"WHILE needs a bool before its block"),
         CALL => say_type_of_call(),
         _ => lines::text(b"the types do not fit here"),

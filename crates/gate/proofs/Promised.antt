@@ -27,7 +27,7 @@ use Rattle.machine.specs.Shown.{fresh, program}
 use Rattle.machine.proofs.Relation.{Kept}
 use Rattle.machine.specs.Codes.{codesOf}
 use Rattle.machine.proofs.Codes.{codes-fit}
-use Rattle.machine.proofs.Whole.{RunsAs, coded-runs, ends-as, never-stuck}
+use Rattle.machine.proofs.Whole.{RunsAs, coded-runs, ends-as, never-lost}
 use Rattle.answers.specs.declared.Report.{Report}
 use Rattle.answers.specs.Answers.{meant, said}
 use Rattle.answers.specs.Ended.{ended, counted, reported}
@@ -155,13 +155,13 @@ module _ (n : ℕ) (size : n ≡ 2 * ring-rows) (L : Limits) (text tree : List �
 
       module _ (codes t : List ℕ) (tree-is : t ≡ holding tree-words (table b) tree) (right : (i : ℕ) → getD codes i 0 ≡ getD (codesOf (script t)) i 0) where
         ends : end-of (run L b) ≡ some (meant (ended (evaluated codes t .ending)))
-        ends = ends-as (runs codes t tree-is right) ∙ ended-meant (runs codes t tree-is right .ending-known) (never-stuck (runs codes t tree-is right) (typed-of x .1))
+        ends = ends-as (runs codes t tree-is right) ∙ ended-meant (runs codes t tree-is right .ending-known) (never-lost (runs codes t tree-is right) (typed-of x .1))
 
         counts : reported (L .fuel) (evaluated codes t .ending) (evaluated codes t .after .counts) ≡
             counted (L .fuel) (ended (evaluated codes t .ending)) (evaluated codes t .after .counts)
         counts =
             reported-counts (L .fuel) (evaluated codes t .after .counts) (runs codes t tree-is right .ending-known)
-            (never-stuck (runs codes t tree-is right) (typed-of x .1))
+            (never-lost (runs codes t tree-is right) (typed-of x .1))
 
         kept-waiting : Kept n waiting (evaluated codes t .after .waiting)
         unfolding evaluated

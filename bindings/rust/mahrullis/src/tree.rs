@@ -10,9 +10,9 @@ pub enum Kind {
     Block = 1,
     /// `CONST`
     Const = 2,
-    /// `FUN`
+    /// `FUN` whose body is an expression
     Fun = 3,
-    /// `FUN REC`
+    /// `FUN REC` whose body is an expression
     FunRec = 4,
     /// `VAR`
     Var = 5,
@@ -66,9 +66,15 @@ pub enum Kind {
     Len = 29,
     /// `(vset b i e)`
     Vset = 30,
+    /// `RETURN`
+    Return = 31,
+    /// `FUN` whose body is a block
+    FunBlock = 32,
+    /// `FUN REC` whose body is a block
+    FunRecBlock = 33,
 }
 
-const KINDS: [Kind; 30] = [
+const KINDS: [Kind; 33] = [
     Kind::Block,
     Kind::Const,
     Kind::Fun,
@@ -99,6 +105,9 @@ const KINDS: [Kind; 30] = [
     Kind::Nth,
     Kind::Len,
     Kind::Vset,
+    Kind::Return,
+    Kind::FunBlock,
+    Kind::FunRecBlock,
 ];
 
 impl Kind {
@@ -107,7 +116,7 @@ impl Kind {
         self as u64
     }
 
-    /// The kind of a number, none where it is not 1 to 30.
+    /// The kind of a number, none where it is not 1 to 33.
     pub fn from_number(number: u64) -> Option<Kind> {
         let before = usize::try_from(number).ok()?.checked_sub(1)?;
         KINDS.get(before).copied()
@@ -183,7 +192,7 @@ impl<'a> Node<'a> {
 
     /// What it is.
     pub fn kind(self) -> Kind {
-        Kind::from_number(self.word() >> 48).expect("a tree's kinds are 1 to 30")
+        Kind::from_number(self.word() >> 48).expect("a tree's kinds are 1 to 33")
     }
 
     /// The byte of the text at which it starts; a parameter's is its name's.

@@ -103,6 +103,28 @@ fn blocks_of_cells() {
 }
 
 #[test]
+fn functions_whose_body_is_a_block() {
+    let gate = &mut Gate::new();
+    let first = b"[FUN f int [n:int] [VAR i int; SET i 0; WHILE true [IF (lt n i) [RETURN i] [SET i (add i 1)]]; RETURN 0]; ECHO (f 1)]";
+    expect(gate, first, MOST, done(36, 3, 1, &[2]));
+    expect(gate, b"[FUN REC f int [n:int] [IF (lt n 1) [RETURN 0] [RETURN (add n (f (sub n 1)))]]; ECHO (f 3)]", MOST, done(47, 9, 0, &[6]));
+    expect(gate, b"[FUN f int [n:int] [RETURN n]; ECHO (f 1)]", MOST.with_fuel(5), stopped(Stop::Fuel, 20, 5, 2, 0));
+    expect(gate, b"[FUN f int [n:int] [RETURN 1; ECHO 2]; ECHO 1]", MOST, refused(Code::Syntax, 28));
+    expect(gate, b"[FUN f int [n:int] [IF true [RETURN 1] [RETURN 2]; RETURN 3]; ECHO 1]", MOST, refused(Code::Type, 20));
+    expect(gate, b"[FUN f int [n:int] [IF true [RETURN 1] [ECHO 2]; ECHO 3]; ECHO 1]", MOST, refused(Code::Type, 19));
+    expect(gate, b"[FUN f int [n:int] [ECHO 1]; ECHO 1]", MOST, refused(Code::Type, 1));
+    expect(gate, b"[PROC p [n:int] [RETURN 1]; ECHO 1]", MOST, refused(Code::Type, 1));
+    expect(gate, b"[RETURN 1]", MOST, refused(Code::Type, 0));
+
+    let text = b"[FUN REC f int [n:int] [RETURN 1]; FUN g int [n:int] [RETURN n]; ECHO (f 1)]";
+    let kinds: Vec<Kind> = gate.check(text).unwrap().root().children().map(|node| node.kind()).collect();
+    assert_eq!(kinds, [Kind::FunRecBlock, Kind::FunBlock, Kind::Echo]);
+    let function = gate.check(text).unwrap().node(1).unwrap();
+    let parts: Vec<Kind> = function.children().map(|node| node.kind()).collect();
+    assert_eq!(parts, [Kind::Name, Kind::Int, Kind::Parameter, Kind::Block]);
+}
+
+#[test]
 fn lengths_tokens_and_levels() {
     let gate = &mut Gate::new();
     let padded = |length: usize| {
@@ -183,7 +205,7 @@ fn numbers_and_words_of_the_answers() {
     for number in 0..100 {
         assert!(Code::from_number(number).map_or(!(1..=10).contains(&number), |code| code.number() == number));
         assert!(Stop::from_number(number).map_or(!(20..=29).contains(&number), |stop| stop.number() == number));
-        assert!(Kind::from_number(number).map_or(!(1..=30).contains(&number), |kind| kind.number() == number));
+        assert!(Kind::from_number(number).map_or(!(1..=33).contains(&number), |kind| kind.number() == number));
     }
     assert!(Stop::Output.is_limit() && !Stop::Range.is_limit());
     let refusal = Refusal { code: Code::Syntax, place: 1 };
@@ -225,6 +247,9 @@ fn stack_of_the_deepest_runs() {
             "[FUN REC f bool [n:int] (or (f n) true); IF (f 0) [ECHO 1] [ECHO 2]]",
             "[FUN REC f (int -> int) [n:int] [m:int] ((f n) m); ECHO ((f 0) 1)]",
             "[FUN REC f int [a:int, b:int, c:int, d:int, e:int] (f a b c d (f a b c d e)); ECHO (f 0 0 0 0 0)]",
+            "[FUN REC f int [n:int] [RETURN (f n)]; ECHO (f 0)]",
+            "[FUN REC f int [n:int] [WHILE true [IF true [RETURN (f n)] [ECHO 1]]; RETURN 0]; ECHO (f 0)]",
+            "[FUN REC f (vec int) [b:(vec int)] [RETURN (vset (f b) (len (f b)) 0)]; ECHO (len (f (alloc int 1)))]",
             "[PROC REC p [n:int] [CALL p n]; CALL p 0]",
             "[PROC REC p [n:int] [WHILE true [IF true [CALL p n] [ECHO 1]]]; CALL p 0]",
         ] {

@@ -18,6 +18,9 @@ enum-known-ending-2 c = search needs
 enum-told-2 : tie.Need-enum-told-2
 enum-told-2 c = search needs
 
+enum-told-3 : tie.Need-enum-told-3
+enum-told-3 c = search needs
+
 returns : tie.Need-returns
 returns c = search needs
 
@@ -30,6 +33,9 @@ returns-3 c = rw (c .before .ending2 .given .1)
 returns-4 : tie.Need-returns-4
 returns-4 c = search needs
 
+returns-5 : tie.Need-returns-5
+returns-5 c = search needs
+
 pub end-answer-spec : {M : Type 1} → statement M
 end-answer-spec =
     tie.close
@@ -39,7 +45,9 @@ end-answer-spec =
     stop-answer-requires
     enum-known-ending-2
     enum-told-2
+    enum-told-3
     returns
     returns-2
     returns-3
-    returns-4)
+    returns-4
+    returns-5)

@@ -205,7 +205,7 @@ impl Tables {
         assert!(count >= 3 && tree[0] & 0xffff_ffff_0000_ffff == 1 << 48, "the root is a block at 0 without a sibling");
         for (i, word) in tree[..count].iter().enumerate() {
             let [kind, place, child, sibling] = [48, 32, 16, 0].map(|low| (word >> low & 0xffff) as usize);
-            assert!((1..=30).contains(&kind) && place < text.len(), "node {i}");
+            assert!((1..=33).contains(&kind) && place < text.len(), "node {i}");
             assert!(i == 0 || (tree[i - 1] >> 32 & 0xffff) < place as u64, "node {i}: text order");
             assert!(child == 0 || (child == i + 1 && child < count), "node {i}: child");
             assert!(sibling == 0 || (i < sibling && sibling < count), "node {i}: sibling");

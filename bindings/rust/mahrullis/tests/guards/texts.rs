@@ -27,7 +27,7 @@ impl Random {
 }
 
 /// The five tariffs of examples/, the scripts of document 01, and others that end in each way.
-const SCRIPTS: [&str; 42] = [
+const SCRIPTS: [&str; 47] = [
     include_str!("../../../../../examples/bands.aps"),
     include_str!("../../../../../examples/daycap.aps"),
     include_str!("../../../../../examples/fares.aps"),
@@ -69,18 +69,23 @@ const SCRIPTS: [&str; 42] = [
     "[VAR i int; SET i 0; CONST b (vec int) (alloc int 3); WHILE true [SET i (add 1 (nth (vset b i i) i))]]",
     "[PROC REC p [b:(vec int)] [CALL p (alloc int (len b))]; CALL p (alloc int 700)]",
     "[FUN f int [b:(vec (int -> int))] 1; ECHO 1]",
+    "[FUN f int [n:int] [VAR i int; SET i 0; WHILE true [IF (lt n i) [RETURN i] [SET i (add i 1)]]; RETURN 0]; ECHO (f 3)]",
+    "[FUN REC f int [n:int] [IF (lt n 1) [RETURN 0] [RETURN (add n (f (sub n 1)))]]; ECHO (f 30)]",
+    "[FUN f (int -> int) [n:int] [ECHO n; CONST m int (mul n 2); RETURN [k:int] (sub m k)]; ECHO ((f 9) 4)]",
+    "[FUN f int [n:int] [IF true [RETURN 1] [ECHO 2]; ECHO 3]; ECHO 1]",
+    "[PROC p [n:int] [IF true [RETURN 1] [ECHO 1]]; CALL p 1]",
     "12ab 1-2 -> - > 007 VARx var adr\t(adr",
 ];
 
 #[rustfmt::skip]
-const WORDS: [&str; 59] = [
+const WORDS: [&str; 61] = [
     "[", "]", "(", ")", ";", ":", ",", "*", "->", "CONST", "FUN", "REC", "VAR", "PROC", "ECHO", "SET", "IF", "WHILE", "CALL", "if", "and", "or", "bool", "int", "var",
     "adr", "true", "false", "not", "eq", "lt", "add", "sub", "mul", "div", "x", "y", "f", "n", "p", "0", "1", "-1", "42", "9223372036854775807", "-9223372036854775808", "9223372036854775808",
-    "ECHO 1;", "[ECHO x]", "(add x 1)", "[n:int]", "(int -> int)", "vec", "alloc", "nth", "len", "vset", "(vec int)", "(alloc int 2)",
+    "ECHO 1;", "[ECHO x]", "(add x 1)", "[n:int]", "(int -> int)", "vec", "alloc", "nth", "len", "vset", "(vec int)", "(alloc int 2)", "RETURN", "[RETURN n]",
 ];
 
 /// In this order they hold; where one is left out, what needs it is a TYPE.
-const DEFINITIONS: [&str; 12] = [
+const DEFINITIONS: [&str; 13] = [
     "CONST k int 7; ",
     "VAR x int; ",
     "VAR b bool; ",
@@ -91,11 +96,12 @@ const DEFINITIONS: [&str; 12] = [
     "FUN h int [t:(int -> int), n:int] (t (t n)); ",
     "FUN w int [a:int, b:int, c:int, d:int] (sub (add a b) (add c d)); ",
     "CONST v (vec int) (alloc int k); ",
+    "FUN r int [n:int] [IF (lt n k) [RETURN n] [ECHO n]; RETURN (sub n k)]; ",
     "SET x 3; ",
     "SET b true; ",
 ];
 
-const STATEMENTS: [&str; 25] = [
+const STATEMENTS: [&str; 27] = [
     "SET x 3",
     "SET x (add x 1)",
     "ECHO x",
@@ -121,6 +127,8 @@ const STATEMENTS: [&str; 25] = [
     "ECHO (nth (vset v 0 x) 0)",
     "ECHO (len (alloc bool (sub k x)))",
     "WHILE (lt x 9) [SET x (add (nth (vset v x x) x) 1)]",
+    "ECHO (r x)",
+    "ECHO (h r 20)",
 ];
 
 fn noise(random: &mut Random) -> Vec<u8> {
