@@ -1,0 +1,4 @@
+pub mod Corresponding
+pub mod Typed
+pub mod Running
+pub mod Claims
