@@ -1,4 +1,4 @@
--- Each claim of specs/Renaming.antt, proved.
+-- Each claim of specs/RenamingClaims.antt, proved.
 use mathlib.Core.Path.{_≡_, refl, sym, _∙_, ap, subst}
 use mathlib.Core.Bool.{Bool, true, false}
 use mathlib.Core.List.{List, _++_}
@@ -13,12 +13,10 @@ use Rattle.language.specs.Bytes.{bytesOf, same-bytes}
 use Rattle.language.specs.Answers.{Refusal, Answer, fine, refuse}
 use Rattle.language.specs.Names.{Meaning, literal, operator, free, meaning}
 use Rattle.language.specs.Grammar.{BLOCK}
-use Rattle.renaming.specs.Alike.{Alike, a-block, a-last, a-def-then, a-const, a-int, a-echo, a-num, a-name, a-app, a-one-expr, a-more-exprs}
 use Rattle.language.specs.Limits.{Limits, Admitted}
 use Rattle.language.specs.Rules.{bind, need, unless-returned, within, branch, give, give-cell, level, run}
 use Rattle.language.specs.Outcome.{Report, report, state-of, end-of}
 use Rattle.language.specs.Promises.{Verdict, text-bytes, Lent, Told, all-large, Ran, Run, run-refuses, ran-with, too-long, too-much, too-small, not-run, ran}
-use Rattle.renaming.specs.Renaming.{OneToOne, unplaced, unplaced-end, unplaced-report, SameRan, RenamedRun, RenamedText, RenamedAnswer, RenamedTypes, SwappedNames, OneToOneIsNeeded}
 use Rattle.language.specs.Words.{wordsFrom}
 use Rattle.language.proofs.reading.Machine.{set-sib, link, add-leaf, add-fork, retype, parse}
 use Rattle.language.proofs.reading.Descent.{descent}
@@ -26,11 +24,13 @@ use Rattle.language.proofs.reading.Reader.{past, deep}
 use Rattle.language.proofs.reading.Reader
 use Rattle.language.proofs.typing.Judge.{andThen, judged, only, passes, single, same-type, judge-type, judge-after, judge-expr, judge-arg, judge-args, judge-cmds}
 use Rattle.language.proofs.typing.Names.{same-names}
+use Rattle.language.proofs.texts.Verdicts.{judged-tree, judged-text, verdict, verdict-right, only-verdict}
+use Rattle.language.proofs.texts.Promised.{one-run}
+use Rattle.renaming.specs.Alike.{Alike, a-block, a-last, a-def-then, a-const, a-int, a-echo, a-num, a-name, a-app, a-one-expr, a-more-exprs}
+use Rattle.renaming.specs.RenamingClaims.{OneToOne, unplaced, unplaced-end, unplaced-report, SameRan, RenamedRun, RenamedText, RenamedAnswer, RenamedTypes, SwappedNames, OneToOneIsNeeded}
 use Rattle.renaming.proofs.Corresponding.{Corresponds}
 use Rattle.renaming.proofs.Typed.{typed-alike}
 use Rattle.renaming.proofs.Running.{renamed-run}
-use Rattle.language.proofs.texts.Verdicts.{judged-tree, judged-text, verdict, verdict-right, only-verdict}
-use Rattle.language.proofs.texts.Promised.{one-run}
 
 -- names that correspond one to one correspond
 same-bool : (a b : Bool) → (T a → T b) → (T b → T a) → a ≡ b

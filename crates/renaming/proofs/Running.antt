@@ -15,12 +15,12 @@ use Rattle.language.specs.Answers.{LimitStop, CELLS, OUTPUT, ErrorStop, UNSET, 
 use Rattle.language.specs.Names.{Op, Meaning, literal, operator, free, meaning, unless-nine, head-operator}
 use Rattle.language.specs.Numbers.{Computed, amount, fails, as-bit}
 use Rattle.language.specs.Grammar.{BLOCK, CMDS, DEF, STAT, ARGS, ARGSP, EXPR, EXPRS, EXPRP, EXPRSP}
-use Rattle.renaming.specs.Alike.{Alike, a-block, a-last, a-def-then, a-stat-then, a-const, a-fun, a-fun-rec, a-fun-block, a-fun-rec-block, a-var, a-proc, a-proc-rec, a-args, a-no-args, a-arg, a-val-arg, a-var-arg, a-no-argsp, a-argsp, a-echo, a-set, a-if-stat, a-while, a-call, a-return, a-val, a-adr, a-no-exprsp, a-exprsp, a-num, a-name, a-if-expr, a-and, a-or, a-app, a-abs, a-alloc, a-nth, a-len, a-vset, a-one-expr, a-more-exprs}
 use Rattle.language.specs.Types.{values, param-names}
 use Rattle.language.specs.Limits.{Limits}
 use Rattle.language.specs.Rules.{Val, inZ, inF, inFR, inP, inPR, inA, inB, Env, empty, bound, Cell, State, Returned, Why, stop, no-rule, Outcome, ok, halt, bind, need, otherwise, unless-returned, within, branch, take-unit, take-bindings, with-cells, put-out, enter, make, lookup-env, look, bind-all, nth, behind, fresh, store, as-number, if-number, as-truth, as-address, as-block, as-size, cell-in, as-numbers, operate, Entered, entering, also, Body, an-expr, open-function, open-procedure, give, give-cell, Level, exprs, args, cmds, in-block, in-body, read, name-rule, apply-rule, alloc-rule, element-rule, expr-rule, arg-rule, def-rule, rounds, stat-rule, step, level, ended, run}
 use Rattle.language.specs.Outcome.{Report, report}
-use Rattle.renaming.specs.Renaming.{unmade, unplaced-report}
+use Rattle.renaming.specs.Alike.{Alike, a-block, a-last, a-def-then, a-stat-then, a-const, a-fun, a-fun-rec, a-fun-block, a-fun-rec-block, a-var, a-proc, a-proc-rec, a-args, a-no-args, a-arg, a-val-arg, a-var-arg, a-no-argsp, a-argsp, a-echo, a-set, a-if-stat, a-while, a-call, a-return, a-val, a-adr, a-no-exprsp, a-exprsp, a-num, a-name, a-if-expr, a-and, a-or, a-app, a-abs, a-alloc, a-nth, a-len, a-vset, a-one-expr, a-more-exprs}
+use Rattle.renaming.specs.RenamingClaims.{unmade, unplaced-report}
 use Rattle.renaming.proofs.Corresponding.{Corresponds, SameNames, no-names, a-name-more, same-head}
 
 -- ---- what agrees

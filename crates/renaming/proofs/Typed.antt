@@ -5,9 +5,9 @@ use mathlib.Core.List.{List, [], _∷_}
 use Rattle.language.specs.Syntax.{Name, at, TypeTree, bool, int, arrow, vec, TypeTrees, one-type, more-types, Arg, ArgP, Expr, num, name, if-expr, and, or, app, abs, alloc, nth-expr, len, vset, Exprs, one-expr, more-exprs, ExprP, Cmds, last, def-then, stat-then, Def, const, fun, fun-rec, fun-block, fun-rec-block, var, proc, proc-rec, Stat, echo, set, if-stat, while, call, return, Block, block}
 use Rattle.language.specs.Names.{lookup}
 use Rattle.language.specs.Grammar.{BLOCK, CMDS, DEF, STAT, TYPE, TYPES, ARGS, ARGP, ARGSP, EXPR, EXPRS, EXPRP, EXPRSP}
-use Rattle.renaming.specs.Alike.{Alike, a-block, a-last, a-def-then, a-stat-then, a-const, a-fun, a-fun-rec, a-fun-block, a-fun-rec-block, a-var, a-proc, a-proc-rec, a-bool, a-int, a-arrow, a-vec, a-one-type, a-more-types, a-arg, a-no-args, a-args, a-val-arg, a-var-arg, a-no-argsp, a-argsp, a-echo, a-set, a-if-stat, a-while, a-call, a-return, a-val, a-adr, a-no-exprsp, a-exprsp, a-num, a-name, a-if-expr, a-and, a-or, a-app, a-abs, a-alloc, a-nth, a-len, a-vset, a-one-expr, a-more-exprs}
 use Rattle.language.specs.Types.{Ty, fn, vec-of, Tys, typeOf, typesOf, Par, value, ref, Entity, plain, procedure, Ctx, find, extend, values, par, pars, declared, arg-types, fun-type, Flow, always}
 use Rattle.language.specs.Typing.{Free, IsBase, IsElement, Formed, AllFormed, among, DeclarableAfter, AllDeclarable, HasE, NUM, LITERAL, IDV, IDR, IF, AND, OR, PRIM, APP, ABS, ALLOC, NTH, LEN, VSET, HasEs, ONE, MORE, HasA, REF, VAL, HasAs, NO-ARGS, ARGS as ARGUMENTS, HasB, BLOC, HasC, DECS, STATS, END, HasD, CONST, FUN, FUNREC, FUNP, FUNRECP, VAR, PROC, PROCREC, HasS, ECHO, SET, IFS, WHILE, CALL, RET, Typable}
+use Rattle.renaming.specs.Alike.{Alike, a-block, a-last, a-def-then, a-stat-then, a-const, a-fun, a-fun-rec, a-fun-block, a-fun-rec-block, a-var, a-proc, a-proc-rec, a-bool, a-int, a-arrow, a-vec, a-one-type, a-more-types, a-arg, a-no-args, a-args, a-val-arg, a-var-arg, a-no-argsp, a-argsp, a-echo, a-set, a-if-stat, a-while, a-call, a-return, a-val, a-adr, a-no-exprsp, a-exprsp, a-num, a-name, a-if-expr, a-and, a-or, a-app, a-abs, a-alloc, a-nth, a-len, a-vset, a-one-expr, a-more-exprs}
 use Rattle.renaming.proofs.Corresponding.{Corresponds, SameNames, no-names, a-name-more, same-head}
 
 -- ---- what types and parameters say

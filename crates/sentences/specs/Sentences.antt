@@ -1,5 +1,6 @@
 -- A constant never changes; an address is never paid out; nothing carries over from one run to the next.
 -- Each as claims over the rules, with a sentence; proofs/Claims.antt proves each.
+use lib.ListN.{take}
 use Rattle.language.specs.Library.{_≡_, ℕ, suc, ℤ, Bool, true, false, List, [], _∷_, Option, none, some}
 use Rattle.language.specs.Syntax.{Name, at, TypeTree, Expr, name, ExprP, val, adr, Def, const, Stat, echo, set, if-stat, while, call, return, Block}
 use Rattle.language.specs.Bytes.{same-bytes}
@@ -11,7 +12,6 @@ use Rattle.language.specs.Limits.{Limits}
 use Rattle.language.specs.Rules.{Val, inZ, Env, bound, Cell, State, Returned, Why, stop, Outcome, ok, halt, take-unit, put-out, as-address, Level, expr-rule, arg-rule, def-rule, stat-rule, level, start}
 use Rattle.language.specs.Promises.{Verdict, Lent, all-large, Ran, Run}
 use Rattle.language.specs.Claims.{AllNodes}
-use lib.ListN.{take}
 
 -- what an evaluation came to is so, P, and so is the state in which it ended, I, whatever ended it
 pub data Ends {A : Type 0} (P : A → Type 0) (I : State → Type 0) : Outcome A → Type 0 where

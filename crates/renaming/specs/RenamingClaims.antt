@@ -1,17 +1,17 @@
--- Renaming changes nothing (request 9), each claim as a type with a sentence; proofs/Renaming.antt proves each.
+-- Renaming changes nothing (request 9), each claim as a type with a sentence; proofs/Claims.antt proves each.
 use Rattle.language.specs.Library.{_≡_, ℕ, _≤_, String, ℤ, pos, negsuc, List, [], _∷_, length, Option, none, some}
 use Rattle.language.specs.Syntax.{Name, Block}
 use Rattle.language.specs.Bytes.{bytesOf}
 use Rattle.language.specs.Answers.{RANGE, ZERO, UNSET, SIZE, INDEX, Stop, limit, error, Answer, done, refused, stopped, fine}
 use Rattle.language.specs.Names.{free, meaning}
 use Rattle.language.specs.Grammar.{BLOCK}
-use Rattle.renaming.specs.Alike.{Alike}
 use Rattle.language.specs.Typing.{Typable}
 use Rattle.language.specs.Limits.{Limits, greatest-limits}
 use Rattle.language.specs.Rules.{run}
 use Rattle.language.specs.Outcome.{Report, report}
 use Rattle.language.specs.Promises.{Verdict, text-bytes, Lent, Told, Ran, Run}
 use Rattle.language.specs.Desk.{ends}
+use Rattle.renaming.specs.Alike.{Alike}
 
 -- names that correspond, `N x y`, one to one, the nine to themselves
 pub record OneToOne (N : Name → Name → Type 0) : Type 0 where
