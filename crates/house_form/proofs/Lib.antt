@@ -1,0 +1,12 @@
+pub mod Fronts
+pub mod Digits
+pub mod Stripped
+pub mod Spelled
+pub mod Back
+pub mod Copied
+pub mod Length
+pub mod Moved
+pub mod Unread
+pub mod Levels
+pub mod Tables
+pub mod Claims
