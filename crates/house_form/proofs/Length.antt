@@ -31,7 +31,7 @@ behind-minus-short (b ∷ l) = go (isDigit b)
     go true = omega (arith, signed-short (stripped (b ∷ l)), stripped-short b l)
     go false = omega arith
 
-tidy-short : (l : List ℕ) → length (tidy l) ≤ length l
+pub tidy-short : (l : List ℕ) → length (tidy l) ≤ length l
 tidy-short [] = omega arith
 tidy-short (b ∷ l) = go (isDigit b) (eqb b 45)
   where
