@@ -249,7 +249,7 @@ fn code_row(
     requires base_le_from { base ≤ from }
     requires from_bound { from ≤ 4096 }
     requires first_bound { first < 65536 }
-    requires* do_bound { do ⌜ 4096 ≤ (← ⟦scopes.len()⟧) ⌝ }
+    requires scopes_long { 4096 ≤ length scopes.old }
     ensures { RowCoded text.now prog.old scopes.old base own first from prog.new scopes.new result }
 {
     let mut i = first;

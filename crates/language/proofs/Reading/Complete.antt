@@ -80,17 +80,17 @@ seq : {f g : Forest → Forest} {q : ℕ} {t : List Node} {from to : Parsed} {m 
     → Went (λ z. f (g z)) q t from r S' o'
 seq {g = g} w e v = record { at = v.at; tab = v.tab; moves = w.moves ∙ (e ∙ v.moves); wrote = λ z. w.wrote (g z) ∙ v.wrote z }
 
-into : (X : Sym) {f : Forest → Forest} {q : ℕ} (u : Ctx) (s : List Entry) {t : List Node} (ls : List ℕ → List ℕ) (ts : List Word) {r : List Word} {S : ℕ → List Entry} {o : List ℕ → List ℕ}
-    → Went f q t (enter (rules X) q u s t ls ts) r S o
-    → Went f q t (parse ts (ent X q u ∷ s) t ls) r S o
-into X {q = q} u s {t} ls ts v = record { at = v.at; tab = v.tab; moves = run_enter X q u s t ls ts ∙ v.moves; wrote = v.wrote }
+into : (X : Sym) {f : Forest → Forest} {q : ℕ} (u : Ctx) (s : List Entry) {t : List Node} (ls : List ℕ → List ℕ) (ts : List Word) {r : List Word} {S : ℕ → List Entry} {o : (List ℕ → List ℕ) → List ℕ → List ℕ}
+    → ((l : List ℕ → List ℕ) → Went f q t (enter (rules X) q u s t l ts) r S (o l))
+    → Went f q t (parse ts (ent X q u ∷ s) t ls) r S (o ls)
+into X {q = q} u s {t} ls ts v = record { at = (v ls).at; tab = (v ls).tab; moves = run_enter X q u s t ls ts ∙ (v ls).moves; wrote = (v ls).wrote }
 
 -- one after the other, where the next begins with the symbol X
-next : (X : Sym) (u : Ctx) (s : List Entry) {f g : Forest → Forest} {q : ℕ} {t : List Node} {from : Parsed} {m r : List Word} {S' : ℕ → List Entry} {o o' : List ℕ → List ℕ}
+next : (X : Sym) (u : Ctx) (s : List Entry) {f g : Forest → Forest} {q : ℕ} {t : List Node} {from : Parsed} {m r : List Word} {S' : ℕ → List Entry} {o : List ℕ → List ℕ} {o' : (List ℕ → List ℕ) → List ℕ → List ℕ}
     → (w : Went f q t from m (λ a. ent X a u ∷ s) o)
-    → Went g w.at w.tab (enter (rules X) w.at u s w.tab o m) r S' o'
-    → Went (λ z. f (g z)) q t from r S' o'
-next X u s {m = m} {o = o} w v = seq w (run_enter X w.at u s w.tab o m) v
+    → ((l : List ℕ → List ℕ) → Went g w.at w.tab (enter (rules X) w.at u s w.tab l m) r S' (o' l))
+    → Went (λ z. f (g z)) q t from r S' (o' o)
+next X u s {m = m} {o = o} w v = seq w (run_enter X w.at u s w.tab o m) (v o)
 
 -- one node, whose children are written
 wrap : (k p q : ℕ) (t : List Node) {f : Forest → Forest} {from : Parsed} {m r : List Word} {S S' : ℕ → List Entry} {T : List Node} {o o' : List ℕ → List ℕ}
@@ -418,7 +418,7 @@ unfolding parse enter shape_type shape_arg shape_args shape_arg_p shape_args_p s
 read_return {p = p} {ts = ts} h = record {
   get = λ q u s t ls r' c.
       let S : List Entry = ent sym_end (suc (length t)) u ∷ s in
-      wrap 31 p q t refl (into sym_expr u S _ ts (h.get sym_paren sym_arg1 is_e none [] 0 u S (add_fork 31 p q t) _)) (end_end c _ u s _ _);
+      wrap 31 p q t refl (into sym_expr u S _ ts (λ l. h.get sym_paren sym_arg1 is_e none [] 0 u S (add_fork 31 p q t) l)) (end_end c _ u s _ _);
 }
 
 read_const : {p : ℕ} {x : Ident} {t : TreeOf TYPE} {e : TreeOf EXPR} {ts us r : List Word} → Fact TYPE t ts us → Fact EXPR e us r → Fact DEF (const p x t e) (mark k_const p ∷ named x ∷ ts) r
@@ -427,7 +427,7 @@ read_const {p = p} {x = x} {ts = ts} h k = record {
   get = λ q u s t ls.
       let S : List Entry = ent sym_semi (suc (length t)) u ∷ s in
       wrap 2 p q t refl
-      (next sym_expr u S (next sym_ct u S (leafw 19 (place_ident x) 0 (add_fork 2 p q t) {r = ts} refl) (h.get (some sym_expr) [] _ u S _ _)) (k.get sym_paren sym_arg1 is_e none [] _ u S _ _))
+      (next sym_expr u S (next sym_ct u S (leafw 19 (place_ident x) 0 (add_fork 2 p q t) {r = ts} refl) (λ l. h.get (some sym_expr) [] _ u S _ l)) (λ l. k.get sym_paren sym_arg1 is_e none [] _ u S _ l))
       refl;
 }
 
@@ -438,10 +438,9 @@ read_fun {p = p} {x = x} {ts = ts} {vs = vs} h k l = record {
       let S : List Entry = ent sym_semi (suc (length t)) u ∷ s in
       let v : Ctx = ctx (suc (length t)) (lev u) in
       wrap 3 p q t refl
-      (seq
-      (seq (next sym_ft v S (leafw 19 (place_ident x) 0 (add_fork 3 p q t) {r = ts} refl) (h.get (some sym_fl) [] _ v S _ _)) refl (k.get sym_farg1 sym_fbody is_f _ v S _ _ vs lit))
-      (run_enter sym_fbody _ v S _ _ vs)
-      (l.get sym_paren sym_fopen is_b none [] _ v S _ _))
+      (next sym_fbody v S
+      (seq (next sym_ft v S (leafw 19 (place_ident x) 0 (add_fork 3 p q t) {r = ts} refl) (λ l. h.get (some sym_fl) [] _ v S _ l)) refl (k.get sym_farg1 sym_fbody is_f _ v S _ _ vs lit))
+      (λ o. l.get sym_paren sym_fopen is_b none [] _ v S _ o))
       refl;
 }
 
@@ -452,10 +451,9 @@ read_fun_rec {p = p} {x = x} {ts = ts} {vs = vs} h k l = record {
       let S : List Entry = ent sym_semi (suc (length t)) u ∷ s in
       let v : Ctx = ctx (suc (length t)) (lev u) in
       wrap 4 p q t (retype_fork 4 3 p q t)
-      (seq
-      (seq (next sym_ft v S (leafw 19 (place_ident x) 0 (retype 4 (add_fork 3 p q t)) {r = ts} refl) (h.get (some sym_fl) [] _ v S _ _)) refl (k.get sym_farg1 sym_fbody is_f _ v S _ _ vs lit))
-      (run_enter sym_fbody _ v S _ _ vs)
-      (l.get sym_paren sym_fopen is_b none [] _ v S _ _))
+      (next sym_fbody v S
+      (seq (next sym_ft v S (leafw 19 (place_ident x) 0 (retype 4 (add_fork 3 p q t)) {r = ts} refl) (λ l. h.get (some sym_fl) [] _ v S _ l)) refl (k.get sym_farg1 sym_fbody is_f _ v S _ _ vs lit))
+      (λ o. l.get sym_paren sym_fopen is_b none [] _ v S _ o))
       refl;
 }
 
@@ -466,7 +464,7 @@ read_fun_block {p = p} {b = b} {x = x} {ts = ts} {vs = vs} h k n l = record {
       let S : List Entry = ent sym_semi (suc (length t)) u ∷ s in
       let v : Ctx = ctx (suc (length t)) (lev u) in
       body_of 3 p q t u (λ a. ent sym_semi a u ∷ s) _ refl
-      (seq (next sym_ft v S (leafw 19 (place_ident x) 0 (add_fork 3 p q t) {r = ts} refl) (h.get (some sym_fl) [] _ v S _ _)) refl (k.get sym_farg1 sym_fbody is_f _ v S _ _ (mark k_lbr b ∷ vs) lit))
+      (seq (next sym_ft v S (leafw 19 (place_ident x) 0 (add_fork 3 p q t) {r = ts} refl) (λ l. h.get (some sym_fl) [] _ v S _ l)) refl (k.get sym_farg1 sym_fbody is_f _ v S _ _ (mark k_lbr b ∷ vs) lit))
       n l;
 }
 
@@ -477,7 +475,7 @@ read_fun_rec_block {p = p} {b = b} {x = x} {ts = ts} {vs = vs} h k n l = record 
       let S : List Entry = ent sym_semi (suc (length t)) u ∷ s in
       let v : Ctx = ctx (suc (length t)) (lev u) in
       body_of 4 p q t u (λ a. ent sym_semi a u ∷ s) _ (retype_fork 4 3 p q t)
-      (seq (next sym_ft v S (leafw 19 (place_ident x) 0 (retype 4 (add_fork 3 p q t)) {r = ts} refl) (h.get (some sym_fl) [] _ v S _ _)) refl (k.get sym_farg1 sym_fbody is_f _ v S _ _ (mark k_lbr b ∷ vs) lit))
+      (seq (next sym_ft v S (leafw 19 (place_ident x) 0 (retype 4 (add_fork 3 p q t)) {r = ts} refl) (λ l. h.get (some sym_fl) [] _ v S _ l)) refl (k.get sym_farg1 sym_fbody is_f _ v S _ _ (mark k_lbr b ∷ vs) lit))
       n l;
 }
 
@@ -486,7 +484,7 @@ unfolding parse enter shape_type shape_arg shape_args shape_arg_p shape_args_p s
 read_var {p = p} {x = x} {ts = ts} h = record {
   get = λ q u s t ls.
       let S : List Entry = ent sym_semi (suc (length t)) u ∷ s in
-      wrap 5 p q t refl (next sym_type u S (leafw 19 (place_ident x) 0 (add_fork 5 p q t) {r = ts} refl) (h.get none [] _ u S _ _)) refl;
+      wrap 5 p q t refl (next sym_type u S (leafw 19 (place_ident x) 0 (add_fork 5 p q t) {r = ts} refl) (λ l. h.get none [] _ u S _ l)) refl;
 }
 
 read_proc : {p i j : ℕ} {x : Ident} {a : TreeOf ARGSP} {b : TreeOf BLOCK} {ts us r : List Word} → Fact ARGSP a ts (mark k_rbr j ∷ us) → Fact BLOCK b us r → Fact DEF (proc p x a b) (mark k_proc p ∷ named x ∷ mark k_lbr i ∷ ts) r
@@ -495,10 +493,9 @@ read_proc {p = p} {x = x} {ts = ts} {us = us} h k = record {
   get = λ q u s t ls.
       let S : List Entry = ent sym_semi (suc (length t)) u ∷ s in
       wrap 6 p q t refl
-      (seq
+      (next sym_block u S
       (seq (leafw 19 (place_ident x) 0 (add_fork 6 p q t) {r = ts} {S = λ a. ent sym_argp1 a u ∷ S} refl) refl (h.get _ u S _ _ us lit))
-      (run_enter sym_block _ u S _ _ us)
-      (k.get none [] _ u S _ _))
+      (λ l. k.get none [] _ u S _ l))
       refl;
 }
 
@@ -508,10 +505,9 @@ read_proc_rec {p = p} {x = x} {ts = ts} {us = us} h k = record {
   get = λ q u s t ls.
       let S : List Entry = ent sym_semi (suc (length t)) u ∷ s in
       wrap 7 p q t (retype_fork 7 6 p q t)
-      (seq
+      (next sym_block u S
       (seq (leafw 19 (place_ident x) 0 (retype 7 (add_fork 6 p q t)) {r = ts} {S = λ a. ent sym_argp1 a u ∷ S} refl) refl (h.get _ u S _ _ us lit))
-      (run_enter sym_block _ u S _ _ us)
-      (k.get none [] _ u S _ _))
+      (λ l. k.get none [] _ u S _ l))
       refl;
 }
 
@@ -525,12 +521,15 @@ read_int {p = p} = record { get = λ ns ex q u s t ls. leafw 16 p q t refl }
 
 read_arrow : {p i j : ℕ} {a : TreeOf TYPES} {t : TreeOf TYPE} {ts us r : List Word} → Fact TYPES a ts (mark k_arrow i ∷ us) → Fact TYPE t us (mark k_rpar j ∷ r) → Fact TYPE (arrow p a t) (mark k_lpar p ∷ ts) r
 unfolding parse enter shape_type shape_arg shape_args shape_arg_p shape_args_p shape_expr shape_expr_p shape_exprs_p shape_cmds levels_type levels_arg levels_args levels_arg_p levels_args_p levels_expr levels_expr_p levels_exprs_p levels_cmds
-read_arrow {p = p} {ts = ts} {us = us} h k = record {
+read_arrow {p = p} {a = a} {ts = ts} {us = us} h k = record {
   get = λ ns ex q u s t ls.
       let S : List Entry = follow ns (suc (length t)) u s in
       begin
       (run_enter sym_tp 0 (down u) S (add_fork 17 p q t) (λ l. ls (suc (lev u) ∷ l)) ts)
-      (wrap 17 p q t refl (seq (h.get vec_rules 0 (down u) S (add_fork 17 p q t) _) (run_enter sym_tr _ (down u) S _ _ us) (k.get (some sym_rp) [] _ (down u) S _ _)) refl);
+      (wrap 17 p q t refl (seq
+      (h.get vec_rules 0 (down u) S (add_fork 17 p q t) (λ l. ls (suc (lev u) ∷ l)))
+      (run_enter sym_tr _ (down u) S _ _ us)
+      (k.get (some sym_rp) [] _ (down u) S _ (λ l. ls (suc (lev u) ∷ levels_types a (suc (lev u)) (0 ∷ l))))) refl);
 }
 
 read_vec : {p i j : ℕ} {t : TreeOf TYPE} {ts r : List Word} → Fact TYPE t ts (mark k_rpar j ∷ r) → Fact TYPE (vec p t) (mark k_lpar p ∷ mark kvec i ∷ ts) r
@@ -538,7 +537,7 @@ unfolding parse enter shape_type shape_arg shape_args shape_arg_p shape_args_p s
 read_vec {p = p} {ts = ts} h = record {
   get = λ ns ex q u s t ls.
       let S : List Entry = follow ns (suc (length t)) u s in
-      wrap 26 p q t (retype_fork 26 17 p q t) (into sym_tr (down u) S _ ts (h.get (some sym_rp) [] 0 (down u) S (retype 26 (add_fork 17 p q t)) _)) refl;
+      wrap 26 p q t (retype_fork 26 17 p q t) (into sym_tr (down u) S _ ts (λ l. h.get (some sym_rp) [] 0 (down u) S (retype 26 (add_fork 17 p q t)) l)) refl;
 }
 
 read_one_type : {t : TreeOf TYPE} {ts r : List Word} → Fact TYPE t ts r → Fact TYPES (one_type t) ts r
@@ -547,14 +546,14 @@ read_one_type h = record { get = λ ex q u s t ls. h.get (some sym_ts0) ex q u s
 
 read_more_types : {i : ℕ} {t : TreeOf TYPE} {a : TreeOf TYPES} {ts us r : List Word} → Fact TYPE t ts (mark k_star i ∷ us) → Fact TYPES a us r → Fact TYPES (more_types t a) ts r
 unfolding parse enter shape_type shape_arg shape_args shape_arg_p shape_args_p shape_expr shape_expr_p shape_exprs_p shape_cmds levels_type levels_arg levels_args levels_arg_p levels_args_p levels_expr levels_expr_p levels_exprs_p levels_cmds
-read_more_types {us = us} h k = record { get = λ ex q u s t ls. seq (h.get (some sym_ts0) ex q u s t ls) (run_enter sym_ts1 _ u s _ _ us) (k.get [] _ u s _ _) }
+read_more_types {t = a} {us = us} h k = record { get = λ ex q u s t ls. seq (h.get (some sym_ts0) ex q u s t ls) (run_enter sym_ts1 _ u s _ _ us) (k.get [] _ u s _ (λ l. ls (levels_type a (lev u) (0 ∷ l)))) }
 
 read_arg : {i : ℕ} {x : Ident} {t : TreeOf TYPE} {ts r : List Word} → Fact TYPE t ts r → Fact ARG (arg x t) (named x ∷ mark k_colon i ∷ ts) r
 unfolding parse enter shape_type shape_arg shape_args shape_arg_p shape_args_p shape_expr shape_expr_p shape_exprs_p shape_cmds levels_type levels_arg levels_args levels_arg_p levels_args_p levels_expr levels_expr_p levels_exprs_p levels_cmds
 read_arg {x = x} {ts = ts} h = record {
   get = λ ns ex q u s t ls.
       let S : List Entry = follow ns (suc (length t)) u s in
-      wrap 13 (place_ident x) q t refl (into sym_type u S _ ts (h.get none [] 0 u S (add_fork 13 (place_ident x) q t) _)) refl;
+      wrap 13 (place_ident x) q t refl (into sym_type u S _ ts (λ l. h.get none [] 0 u S (add_fork 13 (place_ident x) q t) l)) refl;
 }
 
 read_one_arg : {a : TreeOf ARG} {ts r : List Word} → Fact ARG a ts r → Fact ARGS (a ∷ []) ts r
@@ -570,7 +569,7 @@ unfolding parse enter shape_type shape_arg shape_args shape_arg_p shape_args_p s
 read_val_arg {x = x} {ts = ts} h = record {
   get = λ ns ex q u s t ls.
       let S : List Entry = follow ns (suc (length t)) u s in
-      wrap 13 (place_ident x) q t refl (into sym_type u S _ ts (h.get none [] 0 u S (add_fork 13 (place_ident x) q t) _)) refl;
+      wrap 13 (place_ident x) q t refl (into sym_type u S _ ts (λ l. h.get none [] 0 u S (add_fork 13 (place_ident x) q t) l)) refl;
 }
 
 read_var_arg : {i j : ℕ} {x : Ident} {t : TreeOf TYPE} {ts r : List Word} → Fact TYPE t ts r → Fact ARGP (var_arg x t) (mark kvar i ∷ named x ∷ mark k_colon j ∷ ts) r
@@ -578,23 +577,23 @@ unfolding parse enter shape_type shape_arg shape_args shape_arg_p shape_args_p s
 read_var_arg {x = x} {ts = ts} h = record {
   get = λ ns ex q u s t ls.
       let S : List Entry = follow ns (suc (length t)) u s in
-      wrap 14 (place_ident x) q t refl (into sym_type u S _ ts (h.get none [] 0 u S (add_fork 14 (place_ident x) q t) _)) refl;
+      wrap 14 (place_ident x) q t refl (into sym_type u S _ ts (λ l. h.get none [] 0 u S (add_fork 14 (place_ident x) q t) l)) refl;
 }
 
 read_one_argp : {a : TreeOf ARGP} {ts r : List Word} → Fact ARGP a ts r → Fact ARGSP (a ∷ []) ts r
 unfolding parse enter shape_type shape_arg shape_args shape_arg_p shape_args_p shape_expr shape_expr_p shape_exprs_p shape_cmds levels_type levels_arg levels_args levels_arg_p levels_args_p levels_expr levels_expr_p levels_exprs_p levels_cmds
-read_one_argp {ts = ts} h = record { get = λ q u s t ls r' c. onto (into sym_argp1 u s _ ts (h.get (some sym_argp0) [] q u s t ls)) (argp_end c _ u s _ _) }
+read_one_argp {ts = ts} h = record { get = λ q u s t ls r' c. onto (into sym_argp1 u s ls ts (λ l. h.get (some sym_argp0) [] q u s t l)) (argp_end c _ u s _ _) }
 
 read_more_argsp : {i : ℕ} {a : TreeOf ARGP} {b : TreeOf ARGSP} {ts us r : List Word} → Fact ARGP a ts (mark k_comma i ∷ us) → Fact ARGSP b us r → Fact ARGSP (a ∷ b) ts r
 unfolding parse enter shape_type shape_arg shape_args shape_arg_p shape_args_p shape_expr shape_expr_p shape_exprs_p shape_cmds levels_type levels_arg levels_args levels_arg_p levels_args_p levels_expr levels_expr_p levels_exprs_p levels_cmds
-read_more_argsp {ts = ts} h k = record { get = λ q u s t ls r' c. seq (into sym_argp1 u s _ ts (h.get (some sym_argp0) [] q u s t ls)) refl (k.get _ u s _ _ r' c) }
+read_more_argsp {ts = ts} h k = record { get = λ q u s t ls r' c. seq (into sym_argp1 u s ls ts (λ l. h.get (some sym_argp0) [] q u s t l)) refl (k.get _ u s _ _ r' c) }
 
 read_echo : {p : ℕ} {e : TreeOf EXPR} {ts r : List Word} → Fact EXPR e ts r → Fact STAT (echo p e) (mark k_echo p ∷ ts) r
 unfolding parse enter shape_type shape_arg shape_args shape_arg_p shape_args_p shape_expr shape_expr_p shape_exprs_p shape_cmds levels_type levels_arg levels_args levels_arg_p levels_args_p levels_expr levels_expr_p levels_exprs_p levels_cmds
 read_echo {p = p} {ts = ts} h = record {
   get = λ c q u s t ls.
       let S : List Entry = ent sym_tail (suc (length t)) u ∷ s in
-      wrap 8 p q t refl (into sym_expr u S _ ts (h.get sym_paren sym_arg1 is_e none [] 0 u S (add_fork 8 p q t) _)) refl;
+      wrap 8 p q t refl (into sym_expr u S _ ts (λ l. h.get sym_paren sym_arg1 is_e none [] 0 u S (add_fork 8 p q t) l)) refl;
 }
 
 read_set : {p : ℕ} {x : Ident} {e : TreeOf EXPR} {ts r : List Word} → Fact EXPR e ts r → Fact STAT (set p x e) (mark k_set p ∷ named x ∷ ts) r
@@ -602,7 +601,7 @@ unfolding parse enter shape_type shape_arg shape_args shape_arg_p shape_args_p s
 read_set {p = p} {x = x} {ts = ts} h = record {
   get = λ c q u s t ls.
       let S : List Entry = ent sym_tail (suc (length t)) u ∷ s in
-      wrap 9 p q t refl (next sym_expr u S (leafw 19 (place_ident x) 0 (add_fork 9 p q t) {r = ts} refl) (h.get sym_paren sym_arg1 is_e none [] _ u S _ _)) refl;
+      wrap 9 p q t refl (next sym_expr u S (leafw 19 (place_ident x) 0 (add_fork 9 p q t) {r = ts} refl) (λ l. h.get sym_paren sym_arg1 is_e none [] _ u S _ l)) refl;
 }
 
 read_if_stat : {p : ℕ} {e : TreeOf EXPR} {b c : TreeOf BLOCK} {ts us vs r : List Word} → Fact EXPR e ts us → Fact BLOCK b us vs → Fact BLOCK c vs r → Fact STAT (if_stat p e b c) (mark k_if p ∷ ts) r
@@ -612,8 +611,8 @@ read_if_stat {p = p} {ts = ts} h k l = record {
       let S : List Entry = ent sym_tail (suc (length t)) u ∷ s in
       wrap 10 p q t refl
       (next sym_block u S
-      (next sym_ib u S (into sym_ic u S _ ts (h.get sym_paren sym_arg1 is_e (some sym_ib) [] 0 u S (add_fork 10 p q t) _)) (k.get (some sym_block) [] _ u S _ _))
-      (l.get none [] _ u S _ _))
+      (next sym_ib u S (into sym_ic u S _ ts (λ l. h.get sym_paren sym_arg1 is_e (some sym_ib) [] 0 u S (add_fork 10 p q t) l)) (λ l. k.get (some sym_block) [] _ u S _ l))
+      (λ o. l.get none [] _ u S _ o))
       refl;
 }
 
@@ -622,7 +621,7 @@ unfolding parse enter shape_type shape_arg shape_args shape_arg_p shape_args_p s
 read_while {p = p} {ts = ts} h k = record {
   get = λ c q u s t ls.
       let S : List Entry = ent sym_tail (suc (length t)) u ∷ s in
-      wrap 11 p q t refl (next sym_block u S (into sym_wc u S _ ts (h.get sym_paren sym_arg1 is_e (some sym_block) [] 0 u S (add_fork 11 p q t) _)) (k.get none [] _ u S _ _)) refl;
+      wrap 11 p q t refl (next sym_block u S (into sym_wc u S _ ts (λ l. h.get sym_paren sym_arg1 is_e (some sym_block) [] 0 u S (add_fork 11 p q t) l)) (λ l. k.get none [] _ u S _ l)) refl;
 }
 
 read_call : {p : ℕ} {x : Ident} {a : TreeOf EXPRSP} {ts r : List Word} → Fact EXPRSP a ts r → Fact STAT (call p x a) (mark k_call p ∷ named x ∷ ts) r
@@ -630,7 +629,7 @@ unfolding parse enter shape_type shape_arg shape_args shape_arg_p shape_args_p s
 read_call {p = p} {x = x} {ts = ts} h = record {
   get = λ c q u s t ls.
       let n : ℕ = suc (length t) in
-      wrap 12 p q t refl (next sym_k1 (ctx n (lev u)) s (leafw 19 (place_ident x) 0 (add_fork 12 p q t) {r = ts} refl) (h.get [] _ (ctx n (lev u)) s _ _)) (call_end c _ n u s _ _);
+      wrap 12 p q t refl (next sym_k1 (ctx n (lev u)) s (leafw 19 (place_ident x) 0 (add_fork 12 p q t) {r = ts} refl) (λ l. h.get [] _ (ctx n (lev u)) s _ l)) (call_end c _ n u s _ _);
 }
 
 read_one_exprp : {a : TreeOf EXPRP} {ts r : List Word} → Fact EXPRP a ts r → Fact EXPRSP (a ∷ []) ts r
@@ -639,7 +638,7 @@ read_one_exprp h = record { get = λ ex q u s t ls. h.get (some sym_k0) ex q u s
 
 read_more_exprsp : {a : TreeOf EXPRP} {b : TreeOf EXPRSP} {ts us r : List Word} → Fact EXPRP a ts us → Fact EXPRSP b us r → Fact EXPRSP (a ∷ b) ts r
 unfolding parse enter shape_type shape_arg shape_args shape_arg_p shape_args_p shape_expr shape_expr_p shape_exprs_p shape_cmds levels_type levels_arg levels_args levels_arg_p levels_args_p levels_expr levels_expr_p levels_exprs_p levels_cmds
-read_more_exprsp h k = record { get = λ ex q u s t ls. next sym_k0 u s (h.get (some sym_k0) ex q u s t ls) (k.get _ _ u s _ _) }
+read_more_exprsp h k = record { get = λ ex q u s t ls. next sym_k0 u s (h.get (some sym_k0) ex q u s t ls) (λ l. k.get Machine.call_rules _ u s _ l) }
 
 read_val : {e : TreeOf EXPR} {ts r : List Word} → Fact EXPR e ts r → Fact EXPRP (val e) ts r
 unfolding parse enter shape_type shape_arg shape_args shape_arg_p shape_args_p shape_expr shape_expr_p shape_exprs_p shape_cmds levels_type levels_arg levels_args levels_arg_p levels_args_p levels_expr levels_expr_p levels_exprs_p levels_cmds
@@ -671,9 +670,9 @@ read_if_expr {p = p} {i = i} {ts = ts} he hf hg = record {
       (wrap 20 p q t (retype_fork 20 23 p q t)
       (next sym_e1 (down u) S
       (next sym_e2 (down u) S
-      (into sym_e3 (down u) S _ ts (he.get sym_paren sym_arg1 is_e (some sym_e2) [] 0 (down u) S (retype 20 (add_fork 23 p q t)) _))
-      (hf.get sym_paren sym_arg1 is_e (some sym_e1) [] _ (down u) S _ _))
-      (hg.get sym_paren sym_arg1 is_e (some sym_rp) [] _ (down u) S _ _))
+      (into sym_e3 (down u) S _ ts (λ l. he.get sym_paren sym_arg1 is_e (some sym_e2) [] 0 (down u) S (retype 20 (add_fork 23 p q t)) l))
+      (λ l. hf.get sym_paren sym_arg1 is_e (some sym_e1) [] _ (down u) S _ l))
+      (λ l. hg.get sym_paren sym_arg1 is_e (some sym_rp) [] _ (down u) S _ l))
       refl);
 }
 
@@ -686,8 +685,8 @@ read_and {p = p} {i = i} {ts = ts} he hf = record {
       (paren_and h i (down u) S (add_fork 23 p q t) (λ l. ls (suc (lev u) ∷ l)) ts)
       (wrap 21 p q t (retype_fork 21 23 p q t)
       (next sym_e1 (down u) S
-      (into sym_e2 (down u) S _ ts (he.get sym_paren sym_arg1 is_e (some sym_e1) [] 0 (down u) S (retype 21 (add_fork 23 p q t)) _))
-      (hf.get sym_paren sym_arg1 is_e (some sym_rp) [] _ (down u) S _ _))
+      (into sym_e2 (down u) S _ ts (λ l. he.get sym_paren sym_arg1 is_e (some sym_e1) [] 0 (down u) S (retype 21 (add_fork 23 p q t)) l))
+      (λ l. hf.get sym_paren sym_arg1 is_e (some sym_rp) [] _ (down u) S _ l))
       refl);
 }
 
@@ -700,8 +699,8 @@ read_or {p = p} {i = i} {ts = ts} he hf = record {
       (paren_or h i (down u) S (add_fork 23 p q t) (λ l. ls (suc (lev u) ∷ l)) ts)
       (wrap 22 p q t (retype_fork 22 23 p q t)
       (next sym_e1 (down u) S
-      (into sym_e2 (down u) S _ ts (he.get sym_paren sym_arg1 is_e (some sym_e1) [] 0 (down u) S (retype 22 (add_fork 23 p q t)) _))
-      (hf.get sym_paren sym_arg1 is_e (some sym_rp) [] _ (down u) S _ _))
+      (into sym_e2 (down u) S _ ts (λ l. he.get sym_paren sym_arg1 is_e (some sym_e1) [] 0 (down u) S (retype 22 (add_fork 23 p q t)) l))
+      (λ l. hf.get sym_paren sym_arg1 is_e (some sym_rp) [] _ (down u) S _ l))
       refl);
 }
 
@@ -713,7 +712,7 @@ read_app {p = p} {ts = ts} he k = record {
       begin
       (paren_app h (down u) S (add_fork 23 p q t) (λ l. ls (suc (lev u) ∷ l)) ts)
       (wrap 23 p q t refl
-      (next sym_args1 (down u) S (he.get sym_paren sym_arg1 is_e (some sym_args1) (pex h) 0 (down u) S (add_fork 23 p q t) _) (k.get [] _ (down u) S _ _))
+      (next sym_args1 (down u) S (he.get sym_paren sym_arg1 is_e (some sym_args1) (pex h) 0 (down u) S (add_fork 23 p q t) (λ l. ls (suc (lev u) ∷ l))) (λ l. k.get [] _ (down u) S _ l))
       refl);
 }
 
@@ -722,7 +721,7 @@ unfolding parse enter shape_type shape_arg shape_args shape_arg_p shape_args_p s
 read_abs {p = p} {us = us} h k = record {
   get = λ P A i ns ex q u s t ls.
       let S : List Entry = follow ns (suc (length t)) u s in
-      wrap 24 p q t refl (seq (h.get A sym_expr (opens_list i) 0 (down u) S (add_fork 24 p q t) _ us lit) (run_enter sym_expr _ (down u) S _ _ us) (k.get sym_paren sym_arg1 is_e none [] _ (down u) S _ _)) refl;
+      wrap 24 p q t refl (next sym_expr (down u) S (h.get A sym_expr (opens_list i) 0 (down u) S (add_fork 24 p q t) _ us lit) (λ l. k.get sym_paren sym_arg1 is_e none [] _ (down u) S _ l)) refl;
 }
 
 read_alloc : {p i j : ℕ} {t : TreeOf TYPE} {e : TreeOf EXPR} {ts us r : List Word} → Fact TYPE t ts us → Fact EXPR e us (mark k_rpar j ∷ r) → Fact EXPR (alloc p t e) (mark k_lpar p ∷ mark kalloc i ∷ ts) r
@@ -734,8 +733,8 @@ read_alloc {p = p} {i = i} {ts = ts} ht he = record {
       (paren_alloc h i (down u) S (add_fork 23 p q t) (λ l. ls (suc (lev u) ∷ l)) ts)
       (wrap 27 p q t (retype_fork 27 23 p q t)
       (next sym_e1 (down u) S
-      (into sym_at (down u) S _ ts (ht.get (some sym_e1) [] 0 (down u) S (retype 27 (add_fork 23 p q t)) _))
-      (he.get sym_paren sym_arg1 is_e (some sym_rp) [] _ (down u) S _ _))
+      (into sym_at (down u) S _ ts (λ l. ht.get (some sym_e1) [] 0 (down u) S (retype 27 (add_fork 23 p q t)) l))
+      (λ l. he.get sym_paren sym_arg1 is_e (some sym_rp) [] _ (down u) S _ l))
       refl);
 }
 
@@ -748,8 +747,8 @@ read_nth {p = p} {i = i} {ts = ts} he hf = record {
       (paren_nth h i (down u) S (add_fork 23 p q t) (λ l. ls (suc (lev u) ∷ l)) ts)
       (wrap 28 p q t (retype_fork 28 23 p q t)
       (next sym_e1 (down u) S
-      (into sym_e2 (down u) S _ ts (he.get sym_paren sym_arg1 is_e (some sym_e1) [] 0 (down u) S (retype 28 (add_fork 23 p q t)) _))
-      (hf.get sym_paren sym_arg1 is_e (some sym_rp) [] _ (down u) S _ _))
+      (into sym_e2 (down u) S _ ts (λ l. he.get sym_paren sym_arg1 is_e (some sym_e1) [] 0 (down u) S (retype 28 (add_fork 23 p q t)) l))
+      (λ l. hf.get sym_paren sym_arg1 is_e (some sym_rp) [] _ (down u) S _ l))
       refl);
 }
 
@@ -761,7 +760,7 @@ read_len {p = p} {i = i} {ts = ts} he = record {
       begin
       (paren_len h i (down u) S (add_fork 23 p q t) (λ l. ls (suc (lev u) ∷ l)) ts)
       (wrap 29 p q t (retype_fork 29 23 p q t)
-      (into sym_e1 (down u) S _ ts (he.get sym_paren sym_arg1 is_e (some sym_rp) [] 0 (down u) S (retype 29 (add_fork 23 p q t)) _))
+      (into sym_e1 (down u) S _ ts (λ l. he.get sym_paren sym_arg1 is_e (some sym_rp) [] 0 (down u) S (retype 29 (add_fork 23 p q t)) l))
       refl);
 }
 
@@ -775,9 +774,9 @@ read_vset {p = p} {i = i} {ts = ts} he hf hg = record {
       (wrap 30 p q t (retype_fork 30 23 p q t)
       (next sym_e1 (down u) S
       (next sym_e2 (down u) S
-      (into sym_e3 (down u) S _ ts (he.get sym_paren sym_arg1 is_e (some sym_e2) [] 0 (down u) S (retype 30 (add_fork 23 p q t)) _))
-      (hf.get sym_paren sym_arg1 is_e (some sym_e1) [] _ (down u) S _ _))
-      (hg.get sym_paren sym_arg1 is_e (some sym_rp) [] _ (down u) S _ _))
+      (into sym_e3 (down u) S _ ts (λ l. he.get sym_paren sym_arg1 is_e (some sym_e2) [] 0 (down u) S (retype 30 (add_fork 23 p q t)) l))
+      (λ l. hf.get sym_paren sym_arg1 is_e (some sym_e1) [] _ (down u) S _ l))
+      (λ l. hg.get sym_paren sym_arg1 is_e (some sym_rp) [] _ (down u) S _ l))
       refl);
 }
 
@@ -787,7 +786,7 @@ read_one_expr h = record { get = λ ex q u s t ls. h.get sym_paren sym_arg1 is_e
 
 read_more_exprs : {e : TreeOf EXPR} {a : TreeOf EXPRS} {ts us r : List Word} → Fact EXPR e ts us → Fact EXPRS a us r → Fact EXPRS (more_exprs e a) ts r
 unfolding parse enter shape_type shape_arg shape_args shape_arg_p shape_args_p shape_expr shape_expr_p shape_exprs_p shape_cmds levels_type levels_arg levels_args levels_arg_p levels_args_p levels_expr levels_expr_p levels_exprs_p levels_cmds
-read_more_exprs h k = record { get = λ ex q u s t ls. next sym_args0 u s (h.get sym_paren sym_arg1 is_e (some sym_args0) ex q u s t ls) (k.get _ _ u s _ _) }
+read_more_exprs h k = record { get = λ ex q u s t ls. next sym_args0 u s (h.get sym_paren sym_arg1 is_e (some sym_args0) ex q u s t ls) (λ l. k.get Machine.args_rules _ u s _ l) }
 
 comp : {k : Sort} {e : TreeOf k} {ts r : List Word} → Reads k e ts r → Fact k e ts r
 comp (r_block h) = read_block (comp h)

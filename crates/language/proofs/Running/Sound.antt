@@ -203,6 +203,7 @@ good_as f (ruled r) = ruled r
 
 -- commands, and then others, if what they return goes together
 before_given : {S : StoreT} {f g : Flow} {v : Val} → Before f g → Gave S f (some v) → Gave S g (some v)
+before_given after_never h = elim h [ ]
 before_given after_may (by_chance h) = by_chance h
 before_given then_always (by_chance h) = by_right h
 

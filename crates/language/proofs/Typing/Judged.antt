@@ -387,6 +387,7 @@ first_unique (later t h) (here k) = absurd (k t)
 first_unique (later t h) (later u k) = first_unique h k
 
 all_no_first : {l : List JudgedNode} {r : Refusal} {q : ℕ} → AllTyped l → FirstBad l r q → ⊥
+all_no_first all_nil h = elim h [ ]
 all_no_first (all_cons t al) (here h) = h t
 all_no_first (all_cons t al) (later u h) = all_no_first al h
 
