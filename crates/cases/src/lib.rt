@@ -12,7 +12,7 @@ use numerals::Read;
 use runner::Limits;
 
 // How many cases were tried, and how many agree.
-#[derive(Drop)]
+#[derive(Clone, Copy)]
 pub struct Tally {
     pub tried: u64,
     pub agree: u64,

@@ -7,13 +7,13 @@
 
 use libc::STDOUT_FILENO;
 
-#[derive(Drop)]
+#[derive(Clone, Copy)]
 struct Line {
     whole: bool,
     number: u64,
 }
 
-#[derive(Drop)]
+#[derive(Clone, Copy)]
 struct Case {
     number: u64,
     place: u64,
@@ -21,7 +21,7 @@ struct Case {
     words: u64,
 }
 
-#[derive(Drop)]
+#[derive(Clone, Copy)]
 struct Tally {
     tried: u64,
     agree: u64,

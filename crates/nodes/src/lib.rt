@@ -12,7 +12,7 @@ ghost use Rattle.nodes.specs.Names.{meaning_no};
 use tables::entry;
 
 // A node's kind, its place in the text, and the numbers of its first child and next sibling (0: none).
-#[derive(Drop)]
+#[derive(Clone, Copy)]
 pub struct Node {
     pub kind: u64,
     pub place: u64,

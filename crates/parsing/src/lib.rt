@@ -13,7 +13,7 @@ mod rules;
 mod stack;
 
 // The tree, with so many words; or the number and the place of the refusal.
-#[derive(Drop)]
+#[derive(Clone, Copy)]
 pub enum Outcome {
     Tree(usize),
     Refused(u8, usize),

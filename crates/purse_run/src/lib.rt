@@ -15,7 +15,7 @@ use purses::{Kind, has_room, make_steps, read_back};
 use tables::entry;
 
 // RUN's report, or 34 to 36.
-#[derive(Drop)]
+#[derive(Clone, Copy)]
 pub enum PurseAnswer {
     Ran(Report),
     Purse,
@@ -82,7 +82,7 @@ fn charge(
 }
 
 // What a run from a purse comes to before its first step: its answer, and the place of its record.
-#[derive(Drop)]
+#[derive(Clone, Copy)]
 pub struct RunBegun {
     pub answer: PurseAnswer,
     pub place: usize,

@@ -21,14 +21,14 @@ pub const RECORD_BYTES: usize = 8;
 const MARK: u8 = 0xA5;
 
 // What a record is: 1 and 2 in the journal.
-#[derive(Drop)]
+#[derive(Clone, Copy)]
 pub enum Kind {
     Credit,
     Charge,
 }
 
 // What reading a record came to: it has no mark, it is wrong, or its entry was made.
-#[derive(Drop)]
+#[derive(Clone, Copy)]
 pub enum Met {
     NoMark,
     Wrong,
@@ -36,7 +36,7 @@ pub enum Met {
 }
 
 // What reading back gives besides the purses: how many records were read, and whether none was wrong.
-#[derive(Drop)]
+#[derive(Clone, Copy)]
 pub struct Back {
     pub place: usize,
     pub sound: bool,
@@ -226,7 +226,7 @@ pub fn make_steps(
 }
 
 // What a credit answers: done, or 34 to 36.
-#[derive(Drop)]
+#[derive(Clone, Copy)]
 pub enum CreditAnswer {
     Done,
     Purse,
@@ -252,7 +252,7 @@ pub fn has_room(journal: &[u8], place: usize) -> bool
 }
 
 // What a credit comes to before its first step: its answer and, where it is done, the place of its record.
-#[derive(Drop)]
+#[derive(Clone, Copy)]
 pub struct CreditBegun {
     pub answer: CreditAnswer,
     pub place: usize,

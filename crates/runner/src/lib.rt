@@ -8,7 +8,7 @@ ghost use Rattle.runner.specs.Own.{given, program_limits, RunOwn};
 
 use answers::Report;
 
-#[derive(Drop)]
+#[derive(Clone, Copy)]
 pub struct Limits {
     pub fuel: u64,
     pub depth: u64,

@@ -10,7 +10,7 @@ ghost use Rattle.spots.specs.Written.{Added, Written};
 use limits::less_of;
 
 // A place: its line and its column, both counted from 1, the column in bytes; and where the line starts and ends. LF ends a line and is no part of it.
-#[derive(Drop)]
+#[derive(Clone, Copy)]
 pub struct Spot {
     pub line: usize,
     pub column: usize,
@@ -20,7 +20,7 @@ pub struct Spot {
 }
 
 // How many lines end before a place, and where its own starts.
-#[derive(Drop)]
+#[derive(Clone, Copy)]
 struct Begun {
     ended: usize,
     start: usize,
@@ -101,7 +101,7 @@ fn shown_to(place: usize, end: usize) -> usize
 }
 
 // The line itself, and the line under it with the caret.
-#[derive(Drop)]
+#[derive(Clone, Copy)]
 enum Row {
     Line,
     Caret,

@@ -13,7 +13,7 @@ use numerals::Read;
 
 // The next word of a text. A mark is a symbol or a key word by its number, and `end` is the place past the word.
 // A refusal is BYTE or NUMBER, by its number.
-#[derive(Drop)]
+#[derive(Clone, Copy)]
 pub enum Found {
     End,
     Mark {
@@ -45,7 +45,7 @@ const NUMBER: u8 = 5;
 const ARROW: u8 = 9;
 
 // What a stretch of bytes is made of.
-#[derive(Drop)]
+#[derive(Clone, Copy)]
 enum Sort {
     Separators,
     LettersAndDigits,

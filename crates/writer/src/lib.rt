@@ -14,7 +14,7 @@ use verdict::{Verdict, check};
 use writing::{Put, put_form};
 
 // So many bytes were written; there is no room for the form; or refused as CHECK refuses.
-#[derive(Drop)]
+#[derive(Clone, Copy)]
 pub enum Wrote {
     Bytes(u64),
     Room,

@@ -89,7 +89,7 @@ fn keeps_sign(word: &[u8], from: usize) -> bool
 }
 
 // Where a text has a word: from `start` up to `end`; nowhere, from 0 up to 0, where it has none.
-#[derive(Drop)]
+#[derive(Clone, Copy)]
 struct Part {
     start: usize,
     end: usize,
@@ -246,7 +246,7 @@ pub fn write_form(text: &[u8], page: &mut [u8])
 }
 
 // So many bytes were written; or there is no room for the form.
-#[derive(Drop)]
+#[derive(Clone, Copy)]
 pub enum Put {
     Bytes(usize),
     Room,
