@@ -7,7 +7,7 @@ use Rattle.running.proofs.evaluate.Reads as evaluate-reads
 use Rattle.entering.proofs.make_cells.Reads as make-cells-reads
 use Rattle.nodes.proofs.next_at.Reads as next-at-reads
 use Rattle.running.proofs.alloc.Reads as own
-use Rattle.running.proofs.+alloc_application_apply_argv_body_evaluate_if_value_length_nth_operate_parts_block_call_command_constant_echo_either_inner_returned_round_rounds_set_vset
+use Rattle.running.proofs.+evaluation
     as cycle
 use cycle.Lts-alloc as lts
 use cycle.Proof.Measures.{alloc_at, evaluate-below}

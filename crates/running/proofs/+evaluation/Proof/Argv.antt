@@ -13,7 +13,7 @@ use Rattle.nodes.proofs.next_at.Reads as next-at-reads
 use Rattle.stores.proofs.put_row.Reads as put-row-reads
 use Rattle.stores.proofs.row_after.Reads as row-after-reads
 use Rattle.running.proofs.argv.Reads as own
-use Rattle.running.proofs.+alloc_application_apply_argv_body_evaluate_if_value_length_nth_operate_parts_block_call_command_constant_echo_either_inner_returned_round_rounds_set_vset
+use Rattle.running.proofs.+evaluation
     as cycle
 use cycle.Lts-argv as lts
 use cycle.Proof.Measures.{argv-at, evaluate-below}

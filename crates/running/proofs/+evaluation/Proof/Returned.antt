@@ -5,7 +5,7 @@ use Rattle.running.proofs.Commands.{return_passes, return_goes}
 use borrow.Author.Rules.{rules}
 use Rattle.running.proofs.evaluate.Reads as evaluate-reads
 use Rattle.running.proofs.run.returned.Reads as own
-use Rattle.running.proofs.+alloc_application_apply_argv_body_evaluate_if_value_length_nth_operate_parts_block_call_command_constant_echo_either_inner_returned_round_rounds_set_vset
+use Rattle.running.proofs.+evaluation
     as cycle
 use cycle.Lts-run-returned as lts
 use cycle.Proof.Measures.{run::returned-at, evaluate-below}

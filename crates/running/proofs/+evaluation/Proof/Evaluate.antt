@@ -18,7 +18,7 @@ use Rattle.running.proofs.parts.Reads as parts-reads
 use Rattle.stores.proofs.plain_value.Reads as plain-value-reads
 use Rattle.running.proofs.vset.Reads as vset-reads
 use Rattle.running.proofs.evaluate.Reads as own
-use Rattle.running.proofs.+alloc_application_apply_argv_body_evaluate_if_value_length_nth_operate_parts_block_call_command_constant_echo_either_inner_returned_round_rounds_set_vset
+use Rattle.running.proofs.+evaluation
     as cycle
 use cycle.Lts-evaluate as lts
 use cycle.Proof.Measures.{evaluate-at, alloc-below, application-below, nth-below, if-value-below, length-below, operate-below, parts_below, vset-below}

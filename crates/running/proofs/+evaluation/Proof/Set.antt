@@ -9,7 +9,7 @@ use Rattle.nodes.proofs.node_at.Reads as node-at-reads
 use Rattle.stores.proofs.store_cell.Reads as store-cell-reads
 use Rattle.tables.proofs.entry.Reads as entry-reads
 use Rattle.running.proofs.run.set.Reads as own
-use Rattle.running.proofs.+alloc_application_apply_argv_body_evaluate_if_value_length_nth_operate_parts_block_call_command_constant_echo_either_inner_returned_round_rounds_set_vset
+use Rattle.running.proofs.+evaluation
     as cycle
 use cycle.Lts-run-set as lts
 use cycle.Proof.Measures.{run::set-at, evaluate-below}

@@ -8,7 +8,7 @@ use Rattle.running.proofs.evaluate.Reads as evaluate-reads
 use Rattle.nodes.proofs.next_at.Reads as next-at-reads
 use Rattle.running.proofs.run.inner.Reads as run::inner-reads
 use Rattle.running.proofs.run.either.Reads as own
-use Rattle.running.proofs.+alloc_application_apply_argv_body_evaluate_if_value_length_nth_operate_parts_block_call_command_constant_echo_either_inner_returned_round_rounds_set_vset
+use Rattle.running.proofs.+evaluation
     as cycle
 use cycle.Lts-run-either as lts
 use cycle.Proof.Measures.{run::either-at, evaluate-below, run::inner-below}

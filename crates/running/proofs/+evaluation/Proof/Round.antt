@@ -12,7 +12,7 @@ use Rattle.nodes.proofs.next_at.Reads as next-at-reads
 use Rattle.stores.proofs.round_end.Reads as round-end-reads
 use Rattle.running.proofs.run.inner.Reads as run::inner-reads
 use Rattle.running.proofs.run.round.Reads as own
-use Rattle.running.proofs.+alloc_application_apply_argv_body_evaluate_if_value_length_nth_operate_parts_block_call_command_constant_echo_either_inner_returned_round_rounds_set_vset
+use Rattle.running.proofs.+evaluation
     as cycle
 use cycle.Lts-run-round as lts
 use cycle.Proof.Measures.{run::round-at, evaluate-below, run::inner-below}

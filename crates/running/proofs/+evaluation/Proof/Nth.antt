@@ -7,7 +7,7 @@ use Rattle.running.proofs.evaluate.Reads as evaluate-reads
 use Rattle.nodes.proofs.next_at.Reads as next-at-reads
 use Rattle.stores.proofs.element_value.Reads as element-value-reads
 use Rattle.running.proofs.nth.Reads as own
-use Rattle.running.proofs.+alloc_application_apply_argv_body_evaluate_if_value_length_nth_operate_parts_block_call_command_constant_echo_either_inner_returned_round_rounds_set_vset
+use Rattle.running.proofs.+evaluation
     as cycle
 use cycle.Lts-nth as lts
 use cycle.Proof.Measures.{nth-at, evaluate-below}

@@ -7,7 +7,7 @@ use Rattle.running.proofs.apply.Reads as apply-reads
 use Rattle.stores.proofs.bound_to.Reads as bound-to-reads
 use Rattle.tables.proofs.entry.Reads as entry-reads
 use Rattle.running.proofs.run.call.Reads as own
-use Rattle.running.proofs.+alloc_application_apply_argv_body_evaluate_if_value_length_nth_operate_parts_block_call_command_constant_echo_either_inner_returned_round_rounds_set_vset
+use Rattle.running.proofs.+evaluation
     as cycle
 use cycle.Lts-run-call as lts
 use cycle.Proof.Measures.{run::call-at, apply-below}

@@ -9,7 +9,7 @@ use Rattle.nodes.proofs.next_at.Reads as next-at-reads
 use Rattle.entering.proofs.open_value.Reads as open-value-reads
 use Rattle.running.proofs.run.inner.Reads as run::inner-reads
 use Rattle.running.proofs.apply.Reads as own
-use Rattle.running.proofs.+alloc_application_apply_argv_body_evaluate_if_value_length_nth_operate_parts_block_call_command_constant_echo_either_inner_returned_round_rounds_set_vset
+use Rattle.running.proofs.+evaluation
     as cycle
 use cycle.Lts-apply as lts
 use cycle.Proof.Measures.{apply_at, argv-below, body_Below, run::inner-below}

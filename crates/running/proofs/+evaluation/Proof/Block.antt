@@ -11,7 +11,7 @@ use borrow.Author.Rules.{rules}
 use Rattle.nodes.proofs.node_at.Reads as node-at-reads
 use Rattle.running.proofs.run.command.Reads as run::command-reads
 use Rattle.running.proofs.run.block.Reads as own
-use Rattle.running.proofs.+alloc_application_apply_argv_body_evaluate_if_value_length_nth_operate_parts_block_call_command_constant_echo_either_inner_returned_round_rounds_set_vset
+use Rattle.running.proofs.+evaluation
     as cycle
 use cycle.Lts-run-block as lts
 use cycle.Proof.Measures.{run::block-at, run::command-below}

@@ -17,7 +17,7 @@ use Rattle.running.proofs.run.returned.Reads as run::returned-reads
 use Rattle.running.proofs.run.rounds.Reads as run::rounds-reads
 use Rattle.running.proofs.run.set.Reads as run::set-reads
 use Rattle.running.proofs.run.command.Reads as own
-use Rattle.running.proofs.+alloc_application_apply_argv_body_evaluate_if_value_length_nth_operate_parts_block_call_command_constant_echo_either_inner_returned_round_rounds_set_vset
+use Rattle.running.proofs.+evaluation
     as cycle
 use cycle.Lts-run-command as lts
 use cycle.Proof.Measures.{run::command-at, run::call-below, run::constant-below, run::echo-below, run::either-below, run::returned-below, run::rounds-below, run::set-below}

@@ -8,7 +8,7 @@ use Rattle.nodes.proofs.node_at.Reads as node-at-reads
 use Rattle.running.proofs.run.block.Reads as run::block-reads
 use Rattle.stores.proofs.caught_value.Reads as caught-value-reads
 use Rattle.running.proofs.body.Reads as own
-use Rattle.running.proofs.+alloc_application_apply_argv_body_evaluate_if_value_length_nth_operate_parts_block_call_command_constant_echo_either_inner_returned_round_rounds_set_vset
+use Rattle.running.proofs.+evaluation
     as cycle
 use cycle.Lts-body as lts
 use cycle.Proof.Measures.{body_at, evaluate-below, run::block-below}

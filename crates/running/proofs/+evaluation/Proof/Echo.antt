@@ -6,7 +6,7 @@ use borrow.Author.Rules.{rules}
 use Rattle.running.proofs.evaluate.Reads as evaluate-reads
 use Rattle.stores.proofs.put_out.Reads as put-out-reads
 use Rattle.running.proofs.run.echo.Reads as own
-use Rattle.running.proofs.+alloc_application_apply_argv_body_evaluate_if_value_length_nth_operate_parts_block_call_command_constant_echo_either_inner_returned_round_rounds_set_vset
+use Rattle.running.proofs.+evaluation
     as cycle
 use cycle.Lts-run-echo as lts
 use cycle.Proof.Measures.{run::echo-at, evaluate-below}

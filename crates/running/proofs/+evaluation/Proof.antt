@@ -23,7 +23,7 @@ mod Round
 mod Rounds
 mod Set
 mod Vset
-use Rattle.running.proofs.+alloc_application_apply_argv_body_evaluate_if_value_length_nth_operate_parts_block_call_command_constant_echo_either_inner_returned_round_rounds_set_vset
+use Rattle.running.proofs.+evaluation
     as cycle
 use cycle.{statement}
 use cycle.Tie.{close}

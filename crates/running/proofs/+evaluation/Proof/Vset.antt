@@ -7,7 +7,7 @@ use Rattle.running.proofs.evaluate.Reads as evaluate-reads
 use Rattle.nodes.proofs.next_at.Reads as next-at-reads
 use Rattle.stores.proofs.set_element.Reads as set-element-reads
 use Rattle.running.proofs.vset.Reads as own
-use Rattle.running.proofs.+alloc_application_apply_argv_body_evaluate_if_value_length_nth_operate_parts_block_call_command_constant_echo_either_inner_returned_round_rounds_set_vset
+use Rattle.running.proofs.+evaluation
     as cycle
 use cycle.Lts-vset as lts
 use cycle.Proof.Measures.{vset-at, evaluate-below}

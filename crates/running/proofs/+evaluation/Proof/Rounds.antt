@@ -10,7 +10,7 @@ use Rattle.machine.specs.Machine.{below, rounds, while_at}
 use borrow.Author.Rules.{rules}
 use Rattle.running.proofs.run.round.Reads as run::round-reads
 use Rattle.running.proofs.run.rounds.Reads as own
-use Rattle.running.proofs.+alloc_application_apply_argv_body_evaluate_if_value_length_nth_operate_parts_block_call_command_constant_echo_either_inner_returned_round_rounds_set_vset
+use Rattle.running.proofs.+evaluation
     as cycle
 use cycle.Lts-run-rounds as lts
 use cycle.Proof.Measures.{run::rounds-at, run::round-below}
