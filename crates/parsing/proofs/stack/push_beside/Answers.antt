@@ -1,0 +1,19 @@
+use mathlib.Core.Path.{refl}
+use borrow.Author.Tests.{eq-eqb, ne_eqb}
+use Rattle.parsing.proofs.Stacks.{drop_push}
+use Rattle.std.proofs.Common.{rules}
+use Rattle.parsing.proofs.stack.push_beside.Goals as goal
+
+pub returns-then-r-eq0 : goal.returns-then-r-eq0
+returns-then-r-eq0 c =
+    record {
+      stacked = rw (eq-eqb _ 0 c.if-r-eq0.true) refl;
+      small = search rules;
+    }
+
+pub returns : goal.returns
+returns c =
+    record {
+      stacked = rw (ne_eqb _ 0 c.if-r-eq0.false) (drop_push c.args.stack.now c.args.at _ (search rules) (search rules));
+      small = search rules;
+    }
