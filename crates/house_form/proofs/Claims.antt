@@ -140,8 +140,12 @@ module _ (text tree : List ℕ) (works : List Lent) (page : List ℕ) where
   only_write : (c : Checked) → Check text tree works c → {w : Written} → Write text tree works page w → written_as c rooms ≡ w
   unfolding after_check
   only_write c h (refuses k) = ap (λ (d : Checked). written_as d rooms) ((one_check text tree works).1 c _ h k)
-  only_write c h (no_room k l) = ap (λ (d : Checked). written_as d rooms) ((one_check text tree works).1 c _ h k) ∙ ap (after_check done _) (lt-leb (length (house_form_of text)) (length page) l)
-  only_write c h (writes k l) = ap (λ (d : Checked). written_as d rooms) ((one_check text tree works).1 c _ h k) ∙ ap (after_check done _) (le-leb (length (house_form_of text)) (length page) l)
+  only_write c h (no_room {t} {w} k l) =
+      let d : Checked = record { answer = done; tree = t; works = w } in
+      ap (λ (e : Checked). written_as e rooms) ((one_check text tree works).1 c d h k) ∙ ap (after_check done d) (lt-leb (length (house_form_of text)) (length page) l)
+  only_write c h (writes {t} {w} k l) =
+      let d : Checked = record { answer = done; tree = t; works = w } in
+      ap (λ (e : Checked). written_as e rooms) ((one_check text tree works).1 c d h k) ∙ ap (after_check done d) (le-leb (length (house_form_of text)) (length page) l)
 
   pub one_write : ((w : Written) × Write text tree works page w) × ((w w' : Written) → Write text tree works page w → Write text tree works page w' → w ≡ w')
   one_write =

@@ -43,11 +43,11 @@ module _ {g : Stage} where
         sim_no _ _ (λ t. stat_there a (eqb→eq _ _ t)) (sim_end (h.on_s (record { at = a; coded = q }) x) λ u s₁ t y m₁ v r₁ gr. last_sim d S k y _ u _ t y v.it (omega (arith, v.less)) e r₁)
     cmds_sim h (at_def_then {i = i} {cs = cs} a b) (suc k) q c x =
         sim_no _ _ (λ t. def_there a (eqb→eq _ _ t)) (sim_bind (h.on_d (record { at = a; coded = q.0 }) x) λ ρ₁ s₁ t y m₁ v r₁ gr.
-        cmds_sim h b k (subst (λ (Γ : List Name). CodedCs g.script g.codes Γ (next g.script i) cs) (sym v.it.scope_is) q.1) (omega (arith, v.less))
+        cmds_sim h {i = next g.script i} b k (subst (λ (Γ : List Name). CodedCs g.script g.codes Γ (next g.script i) cs) (sym v.it.scope_is) q.1) (omega (arith, v.less))
         (record { names' = v.it.named; st = r₁ }))
-    cmds_sim h (at_stat_then a b) (suc k) q c x =
+    cmds_sim h (at_stat_then {i = i} a b) (suc k) q c x =
         sim_no _ _ (λ t. stat_there a (eqb→eq _ _ t)) (sim_unless (λ w t x m p. p.it) (h.on_s (record { at = a; coded = q.0 }) x) λ s₁ t y m₁ v r₁ gr.
-        rw v.it (cmds_sim h b k q.1 (omega (arith, v.less)) (onward x r₁ gr)))
+        rw v.it (cmds_sim h {i = next g.script i} b k q.1 (omega (arith, v.less)) (onward x r₁ gr)))
 
   -- ---- no level left
 
@@ -95,12 +95,12 @@ module _ {g : Stage} where
       record {
         on_e = λ a x. rw (expr_place a.at) (sim_deep _ _ x.st);
         on_a = λ a x. rw (arg_place a.at) (sim_deep _ _ x.st);
-        on_c = λ a x. cmds_sim (record { on_d = λ b y. deep_def _ _ b.at y.st; on_s = λ b y. deep_stat b.at y.st }) a.at _ a.coded (le_refl _) x;
+        on_c = λ a x. cmds_sim {l = level g.limits zero} (record { on_d = λ b y. deep_def _ _ b.at y.st; on_s = λ b y. deep_stat b.at y.st }) a.at _ a.coded (le_refl _) x;
       }
   adequate (suc d) =
       let h = adequate d in
       record {
         on_e = λ a x. rw (expr_place a.at) (sim_guard d _ _ x.st λ r. expr_sim h a.at a.coded (inside x r));
         on_a = λ a x. rw (arg_place a.at) (sim_guard d _ _ x.st λ r. arg_sim h a.at a.coded (inside x r));
-        on_c = λ a x. cmds_sim (record { on_d = λ b y. def_sim d h b.at b.coded y; on_s = λ b y. stat_sim d h b.at b.coded y }) a.at _ a.coded (le_refl _) x;
+        on_c = λ a x. cmds_sim {l = level g.limits (suc d)} (record { on_d = λ b y. def_sim d h b.at b.coded y; on_s = λ b y. stat_sim d h b.at b.coded y }) a.at _ a.coded (le_refl _) x;
       }

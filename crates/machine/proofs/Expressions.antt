@@ -130,7 +130,7 @@ module _ {g : Stage} where
     exprs_sim (at_more_exprs {i = i} a as') (suc k) n top {env = env} q c x =
         sim_no _ _ (λ t. expr_there a (eqb→eq _ _ t)) (sim_each (h.on_e {sp = top} (record { at = a; coded = q.0 }) x) λ u s₁ t y m₁ v r₁ gr.
         rw (after_slot top) (wait_sim n top t y v.it r₁ gr
-        (some_sim (exprs_sim as' k (suc n) (suc top) q.1 (omega (arith, v.less)) (onward (onward x r₁ gr) (r_push r₁ (slot top) t y (omega arith)) (pushing top t y m₁))))))
+        (some_sim (exprs_sim {i = next g.script i} as' k (suc n) (suc top) q.1 (omega (arith, v.less)) (onward (onward x r₁ gr) (r_push r₁ (slot top) t y (omega arith)) (pushing top t y m₁))))))
 
     args_sim : {i : ℕ} {es : List ExprP} → AtAs g.script i es → (k n top : ℕ) {ρ : Env} {env : ℕ} {s : State} {m : Tables} → CodedAs g.script g.codes (scope ρ) i es →
         m.counts.units < k → Here g ρ env s m → Sim g (Waiting g m top n) 0 m (args l es ρ s) (M.args (run_of g) k S env (slot top) n i m)
@@ -140,7 +140,7 @@ module _ {g : Stage} where
     args_sim (at_more_args {i = i} a as') (suc k) n top {env = env} q c x =
         sim_no _ _ (λ t. arg_there a (eqb→eq _ _ t)) (sim_each (h.on_a {sp = top} (record { at = a; coded = q.0 }) x) λ u s₁ t y m₁ v r₁ gr.
         rw (after_slot top) (some_sim (wait_sim n top t y v.it r₁ gr
-        (args_sim as' k (suc n) (suc top) q.1 (omega (arith, v.less)) (onward (onward x r₁ gr) (r_push r₁ (slot top) t y (omega arith)) (pushing top t y m₁))))))
+        (args_sim {i = next g.script i} as' k (suc n) (suc top) q.1 (omega (arith, v.less)) (onward (onward x r₁ gr) (r_push r₁ (slot top) t y (omega arith)) (pushing top t y m₁))))))
 
     -- all arguments of an application, and of a CALL
     all_exprs : {i : ℕ} {es : Exprs} {ρ : Env} {env : ℕ} (sp : ℕ) {s : State} {m : Tables} → InEs g (scope ρ) i es → Here g ρ env s m →

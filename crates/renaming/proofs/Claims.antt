@@ -16,7 +16,7 @@ use Rattle.language.specs.Grammar.{BLOCK}
 use Rattle.language.specs.Limits.{Limits, Admitted}
 use Rattle.language.specs.Rules.{bind, need, unless_returned, within, branch, give, give_cell, level, run}
 use Rattle.language.specs.Outcome.{Report, report, state_of, end_of}
-use Rattle.language.specs.Promises.{Verdict, text_bytes, Lent, Told, all_large, Ran, Run, run_refuses, ran_with, too_long, too_much, too_small, not_run, ran}
+use Rattle.language.specs.Promises.{Verdict, text_bytes, Lent, Told, all_large, Ran, Run, run_refuses, ran_with, too_much, not_run, ran}
 use Rattle.language.specs.Words.{words_from}
 use Rattle.language.proofs.Reading.Machine.{set_sib, link, add_leaf, add_fork, retype, parse}
 use Rattle.language.proofs.Reading.Descent.{descent}

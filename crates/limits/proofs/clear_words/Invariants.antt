@@ -1,0 +1,10 @@
+use Prim.Native.Nat.{◌-◌}
+use native.Mathlib.Omega.{arith}
+use Rattle.limits.proofs.Cleared.{Clearing, clearing_first, clearing_more, clearing_done}
+use Rattle.limits.proofs.clear_words.Given as goal
+
+abbrev pub invariant-loop-i : goal.invariant-loop-i
+invariant-loop-i l = Clearing 0 l.initial.words l.n l.end l.words l.i
+
+abbrev pub decreases-loop-i : goal.decreases-loop-i
+decreases-loop-i l = l.end - l.i
