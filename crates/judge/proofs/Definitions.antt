@@ -57,7 +57,7 @@ module _ (g : Run) where
   row_final zero (row_last a c e f) l = f
   row_final (suc b) (row_last a c e f) l = rw e f
   row_final zero (row_more a c r) l = absurd (omega (arith, row_in g.tree _ _ r))
-  row_final {y = y} (suc b) (row_more a c r) l = rw (ne_eqb (next_at g.tree y) 0 (λ e. omega arith)) (row_final b r (omega arith))
+  row_final {y = y} (suc b) (row_more a c r) l = rw (ne_eqb (next_at g.tree y) 0 (λ e. omega arith)) (row_final {y = next_at g.tree y} b r (omega arith))
 
   last_next : (l y i : ℕ) → next_at g.tree y ≡ i → y < i → ((b : ℕ) → length g.tree ≤ b + i → last_from g.tree b i ≡ l)
       → (b : ℕ) → length g.tree ≤ b + y → y < length g.tree → last_from g.tree b y ≡ l

@@ -212,7 +212,7 @@ module _ (g : Run) where
 
   -- ARGUMENTS
 
-  pub args_move : {z : ℕ} {qs : List Par} (lo : ℕ) (M : List ℕ) → Agree lo g.notes M → Args g.tree g.notes lo z qs → Args g.tree M lo z qs
+  pub args_move : (lo : ℕ) (M : List ℕ) {z : ℕ} {qs : List Par} → Agree lo g.notes M → Args g.tree g.notes lo z qs → Args g.tree M lo z qs
   args_move lo M a args_none = args_none
   args_move lo M a (args_more {z} l nz (gives_value {τ} f s) r) =
       args_more l nz (gives_value {τ = τ} f (rw (← a z l) (spells_move g.tree g.notes M lo lo (omega arith) a s))) (args_move lo M a r)

@@ -312,6 +312,7 @@ module _ (g : Run) where
   may_flow {n} {i} {τ} e j t w f M lo l a no_may σ (saw_none z) (suc b) u =
       let x = flow_at lo M a l w.0 in
       rw (e, ne_eqb i 0 (λ z. omega arith), never_test M lo x, z) (f M lo (omega arith) a (a_may τ) (get_or M n 0) (saw_may x) b (omega arith))
+  may_flow e j t w f M lo l a clash σ q (suc b) u = elim q [ ]
   may_flow {n} {i} {τ} {o} e j t w f M lo l a (a_may ρ) σ (saw_may y) (suc b) u =
       let x = flow_at lo M a l w.0 in
       rw (e, ne_eqb i 0 (λ z. omega arith), never_test M lo x, saw_some M lo y, same_back M lo w.1 (back_may M lo x) (back_may M lo y))

@@ -226,7 +226,7 @@ module _ (x t : List ℕ) where
   sits_up (sits_node mid later kd pl ch nx sc kids rest) = let a = sits_up kids in let b = sits_up rest in omega arith
 
   -- only the scopes of the row's own nodes count
-  sits_same : {f : Nodes} {n m row row' v : ℕ} (S R : List ℕ) → ((j : ℕ) → n ≤ j → j < m → get_or R j 0 ≡ get_or S j 0) → Sits S f n m row row' v
+  sits_same : (S R : List ℕ) {f : Nodes} {n m row row' v : ℕ} → ((j : ℕ) → n ≤ j → j < m → get_or R j 0 ≡ get_or S j 0) → Sits S f n m row row' v
       → Sits R f n m row row' v
   sits_same S R h sits_end = sits_end
   sits_same S R h (sits_node {n = n} {m} {row} {row'} {v} {c} {s} mid later kd pl ch nx sc kids rest) =

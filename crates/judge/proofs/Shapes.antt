@@ -2,7 +2,7 @@
 use Prim.Native.Nat.{ℕ}
 use mathlib.Core.Path.{◌≡◌, refl}
 use mathlib.Core.List.{List, [], ◌∷◌}
-use Rattle.language.specs.Syntax.{Ident, TypeTree, bool, int, arrow, vec, TypeTrees, one_type, more_types, Arg, arg, ArgP, val_arg, var_arg, Expr, num, name, if_expr, and, or, app, abs, alloc, nth_expr, len, vset, Exprs, one_expr, more_exprs, ExprP, val, adr, Cmds, last, def_then, stat_then, Def, const, fun, fun_rec, fun_block, fun_rec_block, var, proc, proc_rec, Stat, echo, set, if_stat, while, call, return, Block, block}
+use Rattle.language.specs.Syntax.{Ident, at, TypeTree, bool, int, arrow, vec, TypeTrees, one_type, more_types, Arg, arg, ArgP, val_arg, var_arg, Expr, num, name, if_expr, and, or, app, abs, alloc, nth_expr, len, vset, Exprs, one_expr, more_exprs, ExprP, val, adr, Cmds, last, def_then, stat_then, Def, const, fun, fun_rec, fun_block, fun_rec_block, var, proc, proc_rec, Stat, echo, set, if_stat, while, call, return, Block, block}
 use Rattle.language.specs.Places.{place_ident, place_expr, place_arg, place_param, place_def, place_stat, place_block}
 use Rattle.language.specs.Table.{Forest, none, leaf, fork, shape_type, shape_types, shape_arg, shape_args, shape_arg_p, shape_args_p, shape_expr, shape_exprs, shape_expr_p, shape_exprs_p, shape_cmds, shape_def, shape_stat, shape_block}
 use Rattle.language.specs.Types.{values, param_type}
@@ -185,13 +185,13 @@ mutual
 shape_params : (ps : List ArgP) (s : Forest) → nodes_of (shape_args_p ps s) ≡ params_row ps (nodes_of s)
 unfolding shape_args_p shape_arg_p
 shape_params [] s = refl
-shape_params (val_arg x t ∷ ps) s = rw (shape_type_lem t none, shape_params ps s)
-shape_params (var_arg x t ∷ ps) s = rw (shape_type_lem t none, shape_params ps s)
+shape_params (val_arg (at p x) t ∷ ps) s = rw (shape_type_lem t none, shape_params ps s)
+shape_params (var_arg (at p x) t ∷ ps) s = rw (shape_type_lem t none, shape_params ps s)
 
 shape_args_lem : (ps : List Arg) (s : Forest) → nodes_of (shape_args ps s) ≡ params_row (values ps) (nodes_of s)
 unfolding shape_args shape_arg
 shape_args_lem [] s = refl
-shape_args_lem (arg x t ∷ ps) s = rw (shape_type_lem t none, shape_args_lem ps s)
+shape_args_lem (arg (at p x) t ∷ ps) s = rw (shape_type_lem t none, shape_args_lem ps s)
 
 mutual
   unfolding shape_expr

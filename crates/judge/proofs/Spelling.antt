@@ -257,7 +257,7 @@ module _ (t M : List ℕ) (lo : ℕ) where
 
   pub row_parts : {r y : ℕ} {τ : Ty} (ts : Tys) → Row (Gets r τ) y (values_of ts) → Parts r y ts τ
   row_parts tnil (row_last i j e s) = p_last i j e s.0 s.1
-  row_parts (tcons σ ts) (row_more i (takes_value j s) p) = p_more i j s (row_parts ts p)
+  row_parts {y = y} (tcons σ ts) (row_more i (takes_value j s) p) = p_more i j s (row_parts {y = next_at t y} ts p)
 
   -- what the argument z gives
   pub data Gives (z : ℕ) : Par → Type 0 where

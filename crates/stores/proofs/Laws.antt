@@ -2,12 +2,10 @@
 use mathlib.Core.Path.{◌≡◌, refl, sym, ap, ◌∙◌}
 use mathlib.Core.Bool.{Bool, true, false}
 use mathlib.Core.List.{List}
-use mathlib.Core.Logic.{◌⊎◌, ⊎_elim}
 use Prim.Native.Nat.{ℕ, suc, ◌+◌, ◌-◌, ◌≤◌, ◌<◌}
 use native.Mathlib.Numerals.{add-one}
 use native.Mathlib.Omega.{arith}
 use borrow.Author.Tests.{eq-eqb, ne_eqb, lt-ltb, le-ltb}
-use denote.Enum.Declared.{tag_of}
 use lib.Dec.{leb}
 use lib.IntN.{ℤ}
 use lib.ListN.{set}
@@ -24,7 +22,6 @@ use Rattle.machine.specs.declared.Ending.TheVariants.{Value, Stop, Unset, Return
 use Rattle.machine.specs.Entries.{pick, binding_at, put_cell, put_cells, node_of, env_of}
 use Rattle.machine.specs.State.{Run, Tables, tables, Ret, is, and_then, if_value, on_value, caught}
 use Rattle.machine.specs.Leaves.{code_in, walk, stored, element_of, set_element}
-use Rattle.machine.specs.contracts.Ending.{the_type}
 use Rattle.stores.specs.Choices.{outward, plain_by, plain_value, echoed}
 
 -- ---- cells
@@ -76,16 +73,13 @@ module _ (b : List ℕ) (c : ℕ) where
       unfolding walk pick
       walk_goes_on h = go_on (leb c (code_in b x.jump)) refl ∙ rw (walk_go, ne_eqb env 0 there, ← x-is, ne_eqb _ c h)
 
--- what the code knows of an answer that is no value, by the variants that are left
+-- what the code knows of an answer that is no value
 abbrev pub NoValue : Ending → Type 0
-NoValue e = (tag_of the_type e ≡ 1) ⊎ ((tag_of the_type e ≡ 2) ⊎ ((tag_of the_type e ≡ 3) ⊎ (tag_of the_type e ≡ 4)))
-
-no_value : (t x : ℕ) → NoValue (Value t x) → ⊥
-no_value t x h = ⊎_elim (λ q. omega (arith, q)) (⊎_elim (λ q. omega (arith, q)) (⊎_elim (λ q. omega (arith, q)) λ q. omega (arith, q))) h
+NoValue e = (t x : ℕ) → e ≡ Value t x → ⊥
 
 -- it is passed on
 pub if_not_value : (e : Ending) → NoValue e → (k : ℕ → ℕ → Ending) → e ≡ if_value e k
-if_not_value (Value t x) h k = absurd (no_value t x h)
+if_not_value (Value t x) h k = absurd (h t x refl)
 if_not_value (Stop n p) h k = refl
 if_not_value (Unset p q) h k = refl
 if_not_value (Returned t x) h k = refl
@@ -93,19 +87,19 @@ if_not_value NoRule h k = refl
 
 -- the same for an answer with the tables
 pub not_value : (e : Ending) → NoValue e → (m : Tables) (k : ℕ → ℕ → Tables → Ret) → is e m ≡ on_value e m k
-not_value (Value t x) h m k = absurd (no_value t x h)
+not_value (Value t x) h m k = absurd (h t x refl)
 not_value (Stop n p) h m k = refl
 not_value (Unset p q) h m k = refl
 not_value (Returned t x) h m k = refl
 not_value NoRule h m k = refl
 
 -- what is neither a value nor returned is not caught
-pub not_caught : (e : Ending) → (tag_of the_type e ≡ 1) ⊎ ((tag_of the_type e ≡ 2) ⊎ (tag_of the_type e ≡ 4)) → e ≡ caught e
-not_caught (Value t x) h = ⊎_elim (λ q. absurd (omega arith)) (⊎_elim (λ q. absurd (omega arith)) λ q. absurd (omega arith)) h
-not_caught (Stop n p) h = refl
-not_caught (Unset p q) h = refl
-not_caught (Returned t x) h = ⊎_elim (λ q. absurd (omega arith)) (⊎_elim (λ q. absurd (omega arith)) λ q. absurd (omega arith)) h
-not_caught NoRule h = refl
+pub not_caught : (e : Ending) → NoValue e → ((t x : ℕ) → e ≡ Returned t x → ⊥) → e ≡ caught e
+not_caught (Value t x) h r = absurd (h t x refl)
+not_caught (Stop n p) h r = refl
+not_caught (Unset p q) h r = refl
+not_caught (Returned t x) h r = absurd (r t x refl)
+not_caught NoRule h r = refl
 
 -- ---- blocks of cells
 

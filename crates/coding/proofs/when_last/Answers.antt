@@ -1,0 +1,13 @@
+use borrow.Author.Tests.{eq-eqb, ne_eqb}
+use Rattle.machine.specs.Entries.{pick}
+use Rattle.coding.specs.Stack.{when_last}
+use Rattle.std.proofs.Common.{rules}
+use Rattle.coding.proofs.when_last.Goals as goal
+
+pub returns-then-next-eq0 : goal.returns-then-next-eq0
+unfolding when_last pick
+returns-then-next-eq0 c = rw (eq-eqb _ 0 c.if-next-eq0.true)
+
+pub returns-else-next-eq0 : goal.returns-else-next-eq0
+unfolding when_last pick
+returns-else-next-eq0 c = rw (ne_eqb _ 0 c.if-next-eq0.false)
