@@ -9,6 +9,7 @@ use lib.ListN.{length, length-set}
 use Rattle.language.specs.Answers.{TOKENS, refusal_number}
 use Rattle.language.specs.Words.{words_of}
 use Rattle.words.specs.Next.{found_from}
+use Rattle.words.specs.declared.Found.{Found}
 use Rattle.reader.specs.Past.{past_found}
 use Rattle.scanning.specs.declared.Next.{Next}
 use Rattle.scanning.specs.declared.Next.TheVariants as next
@@ -90,3 +91,9 @@ module _ (text first : List ℕ) (i : ℕ) (l : List ℕ) (t : Turn) (m : t.more
   -- one turn: the reader is past the word found, and the scan is further
   pub turned : length text ≤ 65536 → Further (entry_of (found_from text i)) (past_found (found_from text i) i)
   turned short = further (entry_of (found_from text i)) (past_found (found_from text i) i) (told text i short)
+
+  -- the same over what the calls answered
+  pub gone_on : (found : Found) (end : ℕ) (l' : List ℕ) (t' : Turn) → length text ≤ 65536 → found ≡ found_from text i → end ≡ past_found found i
+      → t' ≡ turn_past (entry_of found) (length l) t → l' ≡ table_past (entry_of found) l t.words
+      → Holds text first end l' t' × (remaining text end t' < remaining text i t)
+  gone_on found end l' t' short e p u v = rw (v, u, p, e) (turned short)

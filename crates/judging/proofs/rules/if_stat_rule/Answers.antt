@@ -1,0 +1,21 @@
+use borrow.Author.Tests.{not-false, not-true}
+use Rattle.judge.specs.Rules.{if_stat_rule}
+use Rattle.std.proofs.Common.{rules}
+use Rattle.judging.proofs.rules.if_stat_rule.Goals as goal
+
+pub returns-then-not-has_kind : goal.returns-then-not-has_kind
+unfolding if_stat_rule
+returns-then-not-has_kind c = rw (← c.has_kind.ensures, not-true c.has_kind.result c.if-not-has_kind.true-raw)
+
+pub returns : goal.returns
+unfolding if_stat_rule
+returns c =
+    rw (
+      ← c.has_kind.ensures,
+      not-false c.has_kind.result c.if-not-has_kind.false-raw,
+      ← c.next_at-then.ensures,
+      ← c.next_at-otherwise.ensures,
+      ← c.entry.ensures,
+      ← c.entry-2.ensures,
+      c.either_note.ensures,
+    )
