@@ -8,7 +8,7 @@ use Rattle.machine.specs.declared.Ending.TheVariants.{Value}
 use Rattle.machine.specs.Entries.{row}
 use Rattle.machine.specs.State.{Run, Tables, Ret, is}
 use Rattle.machine.specs.Leaves.{allocate, element_value, length_value, set_element}
-use Rattle.machine.specs.Machine.{alloc_e, nth_e, len_e, vset_e, expr_at, level, alloc_at, nth_at, len_at, vset_at}
+use Rattle.machine.specs.Machine.{alloc_e, nth_e, len_e, vset_e, expr_at, alloc_at, nth_at, len_at, vset_at}
 use Rattle.stores.proofs.Laws.{NoValue}
 use Rattle.running.proofs.Laws.{passes, goes}
 

@@ -3,7 +3,6 @@ use mathlib.Core.Path.{◌≡◌, refl, sym, ap, ◌∙◌}
 use mathlib.Core.Bool.{Bool, true, false}
 use mathlib.Core.List.{List}
 use Prim.Native.Nat.{ℕ, suc, ◌-◌, ◌<◌}
-use denote.Enum.Declared.{tag_of}
 use borrow.Author.Tests.{eq-eqb, ne_eqb}
 use Rattle.nodes.specs.declared.Node.{Node}
 use Rattle.nodes.specs.Nodes.{node_at}
@@ -16,7 +15,6 @@ use Rattle.machine.specs.Leaves.{address_of, bound_to, stored, define}
 use Rattle.machine.specs.Machine.{Evaluators, on_bit, const_c, echo_c, set_c, return_c, block_c, if_c, call_c, round, rounds, cmd_by, cmds, below, expr_at, block_at, level, cmd_at}
 use Rattle.machine.specs.Machine.{while_at, round_at, const_at, echo_at, set_at, if_stat_at, call_stat_at, return_at}
 use Rattle.machine.specs.Shown.{program}
-use Rattle.machine.specs.contracts.Ending.{the_type}
 use Rattle.machine.proofs.Members.{cmd_is, cmd_while}
 use Rattle.machine.proofs.Members.{cmds_go, rounds_go, block_is, while_is}
 use Rattle.entering.specs.Opening.{guarded, definition_by, definition, opens}
@@ -198,9 +196,9 @@ module _ (g : Run) (d env sp : ℕ) (m : Tables) (tag ρ i first : ℕ)
   unfolding inner_c
   inner_passes h = rw (← first_is, ← r-is) (passes r h _)
 
-  pub inner_ends : tag_of the_type r.ending ≡ 0 → is (Value tag env) r.after ≡ inner_at g tag d env sp ρ i m
+  pub inner_ends : (t x : ℕ) → r.ending ≡ Value t x → is (Value tag env) r.after ≡ inner_at g tag d env sp ρ i m
   unfolding inner_c
-  inner_ends h = sym (rw (← first_is, ← r-is) (any_value r h _))
+  inner_ends t x h = sym (rw (← first_is, ← r-is) (any_value r t x h _))
 
 -- ---- the loop over commands
 

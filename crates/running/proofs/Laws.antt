@@ -2,10 +2,8 @@
 use mathlib.Core.Path.{◌≡◌, refl, sym, ap, subst, ◌∙◌}
 use mathlib.Core.Bool.{Bool, true, false}
 use mathlib.Core.List.{List}
-use mathlib.Core.Logic.{◌⊎◌, ⊎_elim}
 use Prim.Native.Nat.{ℕ, ◌-◌, ◌≤◌, ◌<◌}
 use native.Mathlib.Omega.{arith}
-use denote.Enum.Declared.{tag_of}
 use lib.Dec.{T, eqb, ltb, ltb→lt}
 use borrow.Author.Tests.{eqb-true}
 use Rattle.nodes.specs.Nodes.{node_at}
@@ -14,7 +12,6 @@ use Rattle.machine.specs.declared.Ending.TheVariants.{Value, Stop, Unset, Return
 use Rattle.machine.specs.Entries.{pick}
 use Rattle.machine.specs.State.{Run, Tables, Ret, is, valued, on_value, and_then, spend, guard}
 use Rattle.machine.specs.Machine.{on_bit, below, level}
-use Rattle.machine.specs.contracts.Ending.{the_type}
 use Rattle.machine.proofs.Members.{below_level}
 use Rattle.entering.specs.Opening.{guarded}
 use Rattle.stores.proofs.Laws.{NoValue, not_value}
@@ -22,14 +19,6 @@ use Rattle.entering.proofs.Laws.{stop_no_value, same_word}
 use Rattle.stores.specs.Choices.{is_bit, bit_answer, branch_of, round_end}
 
 -- ---- answers
-
--- what is no value has not the tag of one
-no_value : (e : Ending) → NoValue e → tag_of the_type e ≡ 0 → ⊥
-no_value e h z =
-    ⊎_elim (λ (t : tag_of the_type e ≡ 1). omega (arith, z, t))
-    (⊎_elim (λ (t : tag_of the_type e ≡ 2). omega (arith, z, t))
-    (⊎_elim (λ (t : tag_of the_type e ≡ 3). omega (arith, z, t)) λ (t : tag_of the_type e ≡ 4). omega (arith, z, t)))
-    h
 
 -- an answer that is no value is passed on
 pub passes : (r : Ret) → NoValue r.ending → (k : ℕ → ℕ → Tables → Ret) → r ≡ and_then r k
@@ -42,16 +31,8 @@ unfolding and_then
 goes r t x h k = ap (λ (e : Ending). on_value e r.after k) h
 
 -- any value
-pub any_value : (r : Ret) → tag_of the_type r.ending ≡ 0 → (k : Tables → Ret) → and_then r (λ _ _ m. k m) ≡ k r.after
-unfolding and_then
-any_value r h k = by r.ending h
-  where
-    by : (e : Ending) → tag_of the_type e ≡ 0 → on_value e r.after (λ _ _ m. k m) ≡ k r.after
-    by (Value t x) h = refl
-    by (Stop n p) h = absurd (omega arith)
-    by (Unset p q) h = absurd (omega arith)
-    by (Returned t x) h = absurd (omega arith)
-    by NoRule h = absurd (omega arith)
+pub any_value : (r : Ret) (t x : ℕ) → r.ending ≡ Value t x → (k : Tables → Ret) → and_then r (λ _ _ m. k m) ≡ k r.after
+any_value r t x h k = goes r t x h λ _ _ m. k m
 
 -- two things that may follow and do the same
 pub follow : (r : Ret) (k l : ℕ → ℕ → Tables → Ret) → ((t x : ℕ) (m : Tables) → k t x m ≡ l t x m) → and_then r k ≡ and_then r l
@@ -83,7 +64,7 @@ module _ (d p : ℕ) (m : Tables) (r : Ret) (r-is : r ≡ guarded d p m) where
       by : (a b : Bool) → Found a b → r ≡ pick a (λ _. pick b (λ _. k (spend m)) λ _. is (Stop 21 p) (spend m)) λ _. is (Stop 20 p) m
       by false b e = e
       by true false e = e
-      by true true e = absurd (no_value r.ending h (ap (λ (q : Ret). tag_of the_type q.ending) e))
+      by true true e = absurd (h 7 (d - 1) (ap (λ (q : Ret). q.ending) e))
 
   module _ (t x : ℕ) (found : r.ending ≡ Value t x) where
     -- a value says that the entry goes on, and how many levels are left

@@ -4,7 +4,6 @@ use mathlib.Core.Bool.{Bool, true, false}
 use mathlib.Core.List.{List}
 use Prim.Native.Nat.{ℕ, suc, ◌+◌, ◌-◌, ◌≤◌, ◌<◌}
 use native.Mathlib.Numerals.{add-one}
-use denote.Enum.Declared.{tag_of}
 use lib.Dec.{eqb}
 use borrow.Author.Tests.{eq-eqb, ne_eqb, lt-ltb, le-ltb}
 use Rattle.nodes.specs.declared.Node.{Node}
@@ -16,7 +15,6 @@ use Rattle.machine.specs.State.{Run, code_at, Tables, tables, Ret, is, on_value,
 use Rattle.machine.specs.Leaves.{negated, combined}
 use Rattle.machine.specs.Machine.{Evaluators, on_bit, args, all_args, if_e, and_e, or_e, operator_e, body_e, call_e, apply_e, expr_by, below, expr_at, block_at, level}
 use Rattle.machine.specs.Machine.{if_at, operator_in, call_at, args_at, body_at, alloc_at, nth_at, len_at, vset_at}
-use Rattle.machine.specs.contracts.Ending.{the_type}
 use Rattle.machine.proofs.Members.{expr_is, args_go}
 use Rattle.entering.specs.Opening.{guarded, opens}
 use Rattle.stores.proofs.Laws.{NoValue, not_value}
@@ -237,8 +235,8 @@ module _ (g : Run) (d env sp : ℕ) (m : Tables) (n : Node) where
                   ← s-is,
                 )
 
-            pub operator_many : tag_of the_type s.ending ≡ 0 → is NoRule s.after ≡ operator_in g o d env sp n m
-            operator_many h = sym (operator_more ∙ any_value s h λ m₃. is NoRule m₃)
+            pub operator_many : (t x : ℕ) → s.ending ≡ Value t x → is NoRule s.after ≡ operator_in g o d env sp n m
+            operator_many t x h = sym (operator_more ∙ any_value s t x h λ m₃. is NoRule m₃)
 
             pub operator_passes_3 : NoValue s.ending → s ≡ operator_in g o d env sp n m
             operator_passes_3 h = passes s h _ ∙ sym operator_more

@@ -6,7 +6,6 @@ use Prim.Native.Nat.{ℕ, suc, ◌+◌}
 use native.Mathlib.Omega.{arith}
 use lib.IntN.{ℤ}
 use lib.ListN.{length}
-use lib.Dec.{T}
 use Rattle.language.specs.Syntax.{Ident, bool, int, arrow, vec, one_type, more_types, arg, val_arg, var_arg, num, name, if_expr, and, or, app, abs, alloc, nth_expr, len, vset, one_expr, more_exprs, val, adr, last, def_then, stat_then, const, fun, fun_rec, fun_block, fun_rec_block, var, proc, proc_rec, echo, set, if_stat, while, call, return, Block, block}
 use Rattle.language.specs.Places.{place_ident}
 use Rattle.language.specs.Words.{Mark, k_lbr, k_rbr, k_lpar, k_rpar, k_semi, k_colon, k_comma, k_star, k_arrow, k_const, k_fun, k_rec, k_var, k_proc, k_echo, k_set, k_if, k_while, k_call, k_return, kif, kand, kor, kbool, kint, kvar, kadr, kvec, kalloc, knth, klen, kvset, Word, mark, number, named}

@@ -12,7 +12,6 @@ use Rattle.language.proofs.Reading.Descent.{descent}
 use Rattle.language.proofs.Reading.Reader.{past, deep, read}
 use Rattle.language.specs.Syntax
 use Rattle.language.specs.Words
-use Rattle.language.proofs.Reading.Machine
 
 words_in : Result (List Word) → List Word
 words_in (fine ts) = ts

@@ -1,19 +1,17 @@
 -- The cells of a block are fresh, and so no other block's and no variable's.
 use mathlib.Core.Path.{◌≡◌, refl, sym, ◌∙◌, ap, subst}
-use Prim.Native.Nat.{ℕ, zero, suc, ◌+◌, ◌≤◌, ◌<◌}
-use native.Mathlib.Nat.{le_refl}
+use Prim.Native.Nat.{ℕ, zero, suc, ◌+◌, ◌≤◌}
 use native.Mathlib.Omega.{arith}
 use mathlib.Core.Bool.{Bool, true, false}
-use mathlib.Core.List.{List, [], ◌∷◌, ◌++◌}
+use mathlib.Core.List.{[], ◌∷◌}
 use mathlib.Core.Option.{Option, none, some, some-injective}
 use lib.IntN.{ℤ}
 use lib.ListN.{length, length-append, replicate, length-replicate}
-use Rattle.language.specs.Syntax.{Name, at, TypeTree, Expr, alloc, var}
+use Rattle.language.specs.Syntax.{Name, at, TypeTree, var}
 use Rattle.language.specs.Answers.{LimitStop, ErrorStop}
 use Rattle.language.specs.Limits.{Limits}
-use Rattle.language.specs.Rules.{Val, in_a, in_b, Env, empty, bound, State, Why, Outcome, ok, halt, bind, need, otherwise, within, take_unit, fresh, enter, make, as_number, as_block, as_address, as_size, Level, alloc_rule, expr_rule, def_rule, level}
-use Rattle.language.specs.Outcome.{state_of}
-use Rattle.language.specs.Claims.{Stays, FreshBlock, AllocIsFresh, Takes, by_alloc, by_var, BlocksApart}
+use Rattle.language.specs.Rules.{Val, in_a, in_b, Env, empty, bound, State, Why, Outcome, ok, halt, bind, need, otherwise, within, take_unit, fresh, as_number, as_block, as_address, as_size, Level, alloc_rule, def_rule, level}
+use Rattle.language.specs.Claims.{FreshBlock, AllocIsFresh, Takes, by_alloc, by_var, BlocksApart}
 use Rattle.language.proofs.Running.Stable.{Mark, After, a_ok, sim_after, level_self}
 
 -- what is so of an outcome's result and state, if it has a result

@@ -1,19 +1,19 @@
 -- What each change of the state keeps, every run keeps: one walk over the rules for every such fact.
-use mathlib.Core.Path.{◌≡◌, refl, sym, ◌∙◌, ap, subst}
+use mathlib.Core.Path.{◌≡◌, refl, ◌∙◌, subst}
 use Prim.Native.Nat.{ℕ, zero, suc, ◌+◌, ◌≤◌, ◌<◌, zero-le}
 use native.Mathlib.Omega.{arith}
 use mathlib.Core.Bool.{Bool, true, false, cond, not as notb}
 use mathlib.Core.List.{List, [], ◌∷◌, ◌++◌}
-use mathlib.Core.Option.{Option, none, some, none-ne-some, some-injective}
+use mathlib.Core.Option.{Option, none, some}
 use lib.Dec.{T, ltb, leb, leb→le, ltb→lt, nltb→le}
 use lib.IntN.{ℤ, pos, ◌+ℤ◌, ◌-ℤ◌, ◌*ℤ◌}
 use lib.ListN.{length, length-append, replicate, length-replicate}
-use Rattle.language.specs.Syntax.{at, arg, Expr, num, name, if_expr, and, or, app, abs, alloc, nth_expr, len, vset, Exprs, one_expr, more_exprs, ExprP, val, adr, Cmds, last, def_then, stat_then, Def, const, fun, fun_rec, fun_block, fun_rec_block, var, proc, proc_rec, Stat, echo, set, if_stat, while, call, return, Block, block}
+use Rattle.language.specs.Syntax.{at, Expr, num, name, if_expr, and, or, app, abs, alloc, nth_expr, len, vset, Exprs, one_expr, more_exprs, ExprP, val, adr, Cmds, last, def_then, stat_then, Def, const, fun, fun_rec, fun_block, fun_rec_block, var, proc, proc_rec, Stat, echo, set, if_stat, while, call, return, Block, block}
 use Rattle.language.specs.Answers.{LimitStop, FUEL, DEPTH, CELLS, BINDINGS, OUTPUT, ErrorStop, RANGE, ZERO, UNSET, SIZE, INDEX, limit, error}
 use Rattle.language.specs.Names.{Op, not, eq, lt, add, sub, mul, div, Meaning, literal, operator, free, meaning, head_operator}
 use Rattle.language.specs.Numbers.{in_range, quotient, Computed, amount, fails, ranged, same_number, as_bit, negated, op1, op2, compute}
 use Rattle.language.specs.Limits.{Limits}
-use Rattle.language.specs.Rules.{Val, in_z, in_f, in_fr, in_p, in_pr, in_a, in_b, Env, empty, Cell, State, Returned, Why, stop, no_rule, Outcome, ok, halt, bind, need, unless_returned, otherwise, within, branch, take_unit, take_bindings, with_cells, put_out, enter, make, look, nth, behind, fresh, store, Body, an_expr, a_block, as_size, cell_in, as_numbers, if_numbers, operate, give, give_cell, Level, exprs, args, cmds, In_block, in_body, read, name_rule, apply_rule, alloc_rule, element_rule, expr_rule, arg_rule, def_rule, rounds, stat_rule, step, level, start, run, ended}
+use Rattle.language.specs.Rules.{Val, in_z, in_f, in_fr, in_p, in_pr, in_a, in_b, Env, empty, Cell, State, Returned, Why, stop, no_rule, Outcome, ok, halt, bind, need, unless_returned, otherwise, within, branch, take_unit, take_bindings, with_cells, put_out, enter, make, look, nth, fresh, store, Body, an_expr, a_block, as_numbers, if_numbers, operate, give, give_cell, Level, exprs, args, cmds, In_block, in_body, read, name_rule, apply_rule, alloc_rule, element_rule, expr_rule, arg_rule, def_rule, rounds, stat_rule, step, level, start, run, ended}
 use Rattle.language.specs.Outcome.{state_of}
 use Rattle.language.specs.Claims.{InLimits, UsedUp, NamesCell, UnsetCell}
 use Rattle.language.proofs.Running.Cells.{length_store}

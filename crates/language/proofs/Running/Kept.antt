@@ -1,8 +1,5 @@
 -- Nothing is given back during a run.
-use Prim.Native.Nat.{ℕ, ◌≤◌}
-use Rattle.language.specs.Syntax.{Expr, ExprP, Def, Stat, Block}
-use Rattle.language.specs.Limits.{Limits, ◌⊑◌}
-use Rattle.language.specs.Rules.{Env, State, Outcome, ok, halt, In_block, level}
+use Rattle.language.specs.Rules.{State, Outcome, ok, halt}
 use Rattle.language.specs.Outcome.{state_of}
 use Rattle.language.specs.Claims.{Stays, NothingGivenBack}
 use Rattle.language.proofs.Running.Stable.{mark, Past, p_here, a_ok, a_halt, Sim, same, cut, block_sim, level_sim, begins_is}

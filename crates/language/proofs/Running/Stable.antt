@@ -8,8 +8,8 @@ use mathlib.Core.List.{List, [], ◌∷◌, ◌++◌, append_assoc, append-nil}
 use mathlib.Core.Option.{Option, none, some}
 use lib.Dec.{T, leb, leb→le, le→leb}
 use lib.IntN.{ℤ}
-use lib.ListN.{length, length-append, replicate, length-replicate}
-use Rattle.language.specs.Syntax.{at, arg, Expr, num, name, if_expr, and, or, app, abs, alloc, nth_expr, len, vset, Exprs, one_expr, more_exprs, ExprP, val, adr, Cmds, last, def_then, stat_then, Def, const, fun, fun_rec, fun_block, fun_rec_block, var, proc, proc_rec, Stat, echo, set, if_stat, while, call, return, Block, block}
+use lib.ListN.{length, length-append, replicate}
+use Rattle.language.specs.Syntax.{at, Expr, num, name, if_expr, and, or, app, abs, alloc, nth_expr, len, vset, Exprs, one_expr, more_exprs, ExprP, val, adr, Cmds, last, def_then, stat_then, Def, const, fun, fun_rec, fun_block, fun_rec_block, var, proc, proc_rec, Stat, echo, set, if_stat, while, call, return, Block, block}
 use Rattle.language.specs.Answers.{LimitStop, ErrorStop, limit}
 use Rattle.language.specs.Names.{Op, Meaning, literal, operator, free, meaning, head_operator}
 use Rattle.language.specs.Numbers.{Computed, amount, fails}

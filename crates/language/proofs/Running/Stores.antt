@@ -14,9 +14,9 @@ use Rattle.language.specs.Answers.{LimitStop, ErrorStop}
 use Rattle.language.specs.Names.{Op, Meaning, literal, operator, free, meaning, head_operator}
 use Rattle.language.specs.Numbers.{Computed, amount, fails}
 use Rattle.language.specs.Limits.{Limits}
-use Rattle.language.specs.Rules.{Val, in_z, in_f, in_fr, in_p, in_pr, in_a, in_b, Env, Cell, State, Returned, Why, Outcome, ok, halt, bind, need, otherwise, unless_returned, within, branch, take_unit, with_cells, enter, make, look, nth, behind, fresh, store, as_number, as_address, as_block, as_size, cell_in, Body, an_expr, a_block, give, give_cell, Level, exprs, args, cmds, In_block, in_body, read, name_rule, apply_rule, alloc_rule, element_rule, expr_rule, arg_rule, def_rule, rounds, stat_rule}
+use Rattle.language.specs.Rules.{Val, in_z, in_f, in_fr, in_p, in_pr, in_a, in_b, Env, Cell, State, Returned, Why, Outcome, ok, halt, bind, need, otherwise, unless_returned, within, branch, take_unit, with_cells, look, nth, behind, fresh, store, as_address, as_block, as_size, cell_in, Body, an_expr, a_block, give, give_cell, Level, exprs, args, cmds, In_block, in_body, read, name_rule, apply_rule, alloc_rule, expr_rule, arg_rule, def_rule, rounds, stat_rule}
 use Rattle.language.specs.Outcome.{state_of}
-use Rattle.language.specs.Claims.{OthersHold, Nowhere, StoresNothing, InBlock, ExprStores, ArgStores, StatStores, StoresGoToCells}
+use Rattle.language.specs.Claims.{OthersHold, Nowhere, StoresNothing, ExprStores, ArgStores, StatStores, StoresGoToCells}
 
 -- ---- lists of cells
 

@@ -9,12 +9,12 @@ use lib.IntN.{ℤ}
 use lib.ListN.{length, take, drop, replicate, length-append, length-replicate}
 use lib.Seq.{take_at, take-append_seam}
 use Rattle.language.specs.Syntax.{Block}
-use Rattle.language.specs.Answers.{LENGTH, LIMIT, Answer, refused, Result, fine, refuse}
+use Rattle.language.specs.Answers.{LENGTH, LIMIT, refused, Result, fine, refuse}
 use Rattle.language.specs.Table.{table}
 use Rattle.language.specs.Limits.{Limits, Admitted}
 use Rattle.language.specs.Rules.{start, run}
 use Rattle.language.specs.Outcome.{state_of}
-use Rattle.language.specs.Promises.{Verdict, typed, verdict_answer, text_bytes, tree_words, Lent, tree_table, large_enough, zeroed, holding, untouched, cleared, tree_after, Checked, check_refuses, Check, judged, told, Ran, all_large, run_refuses, ran_with, Run, too_long, too_much, too_small, not_run, ran}
+use Rattle.language.specs.Promises.{Verdict, typed, verdict_answer, text_bytes, tree_words, Lent, tree_table, large_enough, zeroed, holding, untouched, cleared, tree_after, Checked, check_refuses, Check, judged, told, Ran, all_large, run_refuses, ran_with, Run, too_much, not_run, ran}
 use Rattle.language.specs.Claims.{CheckCarriesNothingOver, RunCarriesNothingOver}
 use Rattle.language.proofs.Reading.Shown.{room}
 use Rattle.language.proofs.Texts.Promised.{one_check, one_run}

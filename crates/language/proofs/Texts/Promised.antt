@@ -15,7 +15,7 @@ use Rattle.language.specs.Typing.{Typable}
 use Rattle.language.specs.Limits.{Limits, Admitted}
 use Rattle.language.specs.Rules.{stop, no_rule, Outcome, ok, halt, start, run}
 use Rattle.language.specs.Outcome.{state_of, end_of}
-use Rattle.language.specs.Promises.{Verdict, typed, verdict_answer, text_bytes, tree_words, Lent, tree_table, large_enough, zeroed, untouched, cleared, tree_after, Checked, check_refuses, Check, judged, told, Ran, all_large, run_refuses, ran_with, Run, too_long, too_much, too_small, not_run, ran}
+use Rattle.language.specs.Promises.{Verdict, typed, verdict_answer, text_bytes, tree_words, Lent, tree_table, large_enough, zeroed, untouched, cleared, tree_after, Checked, check_refuses, Check, judged, told, Ran, all_large, run_refuses, ran_with, Run, too_much, not_run, ran}
 use Rattle.language.specs.Claims.{NoRule}
 use Rattle.language.proofs.Running.Sound.{sound}
 use Rattle.language.proofs.Texts.Verdicts.{verdict, verdict_right, only_verdict}

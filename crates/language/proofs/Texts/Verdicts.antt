@@ -1,5 +1,5 @@
 -- The verdict on a text, made to run: `verdict s` is the one verdict on `s`. Nothing here is believed: the laws show that it is a verdict, and the only one.
-use mathlib.Core.Path.{◌≡◌, refl, sym, ◌∙◌, ap, subst}
+use mathlib.Core.Path.{◌≡◌, refl, ◌∙◌, ap}
 use mathlib.Core.List.{List}
 use Prim.Native.Nat.{ℕ}
 use Rattle.language.specs.Syntax.{Block}

@@ -8,7 +8,7 @@ use lib.Dec.{T}
 use Rattle.language.specs.Syntax.{Name, at, TypeTree, bool, int, arrow, vec, TypeTrees, one_type, more_types, ArgP, Expr, num, name, if_expr, and, or, app, abs, alloc, nth_expr, len, vset, Exprs, one_expr, more_exprs, ExprP, val, adr, Cmds, last, def_then, stat_then, Def, const, fun, fun_rec, fun_block, fun_rec_block, var, proc, proc_rec, Stat, echo, set, if_stat, while, call, return, Block, block}
 use Rattle.language.specs.Answers.{Result, fine}
 use Rattle.language.specs.Names.{Op, Meaning, literal, operator, free, lookup, meaning, unless_nine, head_operator}
-use Rattle.language.specs.Types.{Ty, base, fn, vec_of, Tys, BOOL, INT, type_of, Par, ref, Entity, plain, procedure, Ctx, find, values, Flow, never, always, takes, result}
+use Rattle.language.specs.Types.{Ty, base, fn, Tys, BOOL, INT, type_of, Par, ref, Entity, plain, procedure, Ctx, find, values, Flow, never, always, takes, result}
 use Rattle.language.specs.Typing.{Free, Formed, AllFormed, DeclarableAfter, AllDeclarable, HasE, NUM, LITERAL, IDV, IDR, IF, AND, OR, PRIM, APP, ABS, ALLOC, NTH, LEN, VSET, HasEs, ONE, MORE, HasA, REF, VAL, HasAs, NO_ARGS, ARGS, Either, both_never, both_always, never_may, never_always, may_never, may_may, may_always, always_never, always_may, Before, after_never, after_may, then_always, HasB, BLOC, HasC, DECS, STATS, END, HasD, CONST, FUN, FUNREC, VAR, PROC, PROCREC, HasS, FUNP, FUNRECP, ECHO, SET, IFS, WHILE, CALL, RET}
 use Rattle.language.specs.Order.{after_def}
 use Rattle.language.proofs.Typing.Names.{head_typed}
