@@ -5,7 +5,6 @@ use mathlib.Core.Path.{◌∙◌}
 use native.Mathlib.Omega.{arith}
 use Rattle.amounts.proofs.Bits.{told}
 use Rattle.amounts.proofs.Sums.{higher_fits, lower_fits, sum_kept, size_below, size_above, sum_under, sum_from}
-use Rattle.std.proofs.Common.{rules}
 use Rattle.amounts.proofs.add.Goals as goal
 
 pub overflow_add-below_zero : goal.overflow_add-below_zero

@@ -1,7 +1,6 @@
 use mathlib.Core.Path.{sym, ap, ◌∙◌}
 use lib.IntN.{negsuc, nat_abs}
 use Rattle.amounts.proofs.Bits.{is_neg, flip_fits, flip_back, cast_fits}
-use Rattle.std.proofs.Common.{rules}
 use Rattle.amounts.proofs.below_zero.Goals as goal
 
 pub overflow_sub-result : goal.overflow_sub-result

@@ -1,5 +1,4 @@
 use Rattle.amounts.proofs.Signs.{differ_unlike}
-use Rattle.std.proofs.Common.{rules}
 use Rattle.amounts.proofs.differ.Goals as goal
 
 pub returns : goal.returns

@@ -2,7 +2,6 @@ use mathlib.Core.Path.{◌∙◌}
 use Rattle.amounts.specs.Amounts.{divided}
 use Rattle.amounts.proofs.Signs.{both}
 use Rattle.amounts.proofs.Bits.{told}
-use Rattle.std.proofs.Common.{rules}
 use Rattle.amounts.proofs.div.Goals as goal
 
 pub returns : goal.returns

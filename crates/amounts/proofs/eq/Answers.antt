@@ -1,5 +1,4 @@
 use Rattle.amounts.proofs.Bits.{same_bits}
-use Rattle.std.proofs.Common.{rules}
 use Rattle.amounts.proofs.eq.Goals as goal
 
 pub returns : goal.returns

@@ -1,6 +1,5 @@
 use native.Mathlib.Omega.{arith}
 use Rattle.amounts.proofs.Bits.{word_round}
-use Rattle.std.proofs.Common.{rules}
 use Rattle.amounts.proofs.from_word.Goals as goal
 
 pub returns : goal.returns

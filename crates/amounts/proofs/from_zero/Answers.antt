@@ -1,7 +1,6 @@
 use native.Mathlib.Omega.{arith}
 use Rattle.amounts.proofs.Range.{above}
 use Rattle.amounts.proofs.Bits.{from_kept}
-use Rattle.std.proofs.Common.{rules}
 use Rattle.amounts.proofs.from_zero.Goals as goal
 
 pub returns-then-n-gt-TOP : goal.returns-then-n-gt-TOP

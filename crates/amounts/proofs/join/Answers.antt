@@ -2,7 +2,6 @@ use mathlib.Core.Path.{ap, ◌∙◌}
 use Rattle.language.specs.Numbers.{ranged}
 use Rattle.amounts.proofs.Bits.{join_from, join_none, join_under}
 use borrow.Author.Tests.{not-true, not-false}
-use Rattle.std.proofs.Common.{rules}
 use Rattle.amounts.proofs.join.Goals as goal
 
 pub returns-then-not-negative : goal.returns-then-not-negative

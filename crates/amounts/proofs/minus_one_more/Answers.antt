@@ -1,5 +1,4 @@
 use Rattle.amounts.proofs.Bits.{minus_fits, minus_back}
-use Rattle.std.proofs.Common.{rules}
 use Rattle.amounts.proofs.minus_one_more.Goals as goal
 
 pub overflow_sub-result : goal.overflow_sub-result

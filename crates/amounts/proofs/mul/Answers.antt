@@ -3,7 +3,6 @@ use lib.IntN.{◌*ℤ◌}
 use Rattle.language.specs.Numbers.{ranged}
 use Rattle.amounts.proofs.Signs.{both}
 use Rattle.amounts.proofs.Bits.{told}
-use Rattle.std.proofs.Common.{rules}
 use Rattle.amounts.proofs.mul.Goals as goal
 
 pub returns : goal.returns

@@ -2,7 +2,6 @@ use mathlib.Core.Path.{sym, ap, ◌∙◌}
 use lib.IntN.{pos, nat_abs}
 use mir.Facts.{to_z-of_z}
 use Rattle.amounts.proofs.Bits.{is_pos, half_abs, cast_fits}
-use Rattle.std.proofs.Common.{rules}
 use Rattle.amounts.proofs.not_below_zero.Goals as goal
 
 pub overflow_cast-result : goal.overflow_cast-result

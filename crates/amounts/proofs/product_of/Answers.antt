@@ -3,7 +3,6 @@ use Prim.Native.Nat.{◌*◌}
 use Rattle.language.specs.Numbers.{ranged}
 use Rattle.amounts.specs.Signs.{signed}
 use Rattle.amounts.proofs.Signs.{product, product_none, product_over, product_fits}
-use Rattle.std.proofs.Common.{rules}
 use Rattle.amounts.proofs.product_of.Goals as goal
 
 pub returns-then-y-eq0 : goal.returns-then-y-eq0

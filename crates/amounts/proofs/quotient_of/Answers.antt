@@ -5,7 +5,6 @@ use native.Mathlib.Nat.{div-le_self}
 use native.Mathlib.Omega.{arith}
 use Rattle.amounts.specs.Signs.{signed}
 use Rattle.amounts.proofs.Signs.{divided_none, divided_nothing, divided_like, divided_unlike}
-use Rattle.std.proofs.Common.{rules}
 use Rattle.amounts.proofs.quotient_of.Goals as goal
 
 pub returns-then-y-eq0 : goal.returns-then-y-eq0

@@ -2,7 +2,6 @@ use mathlib.Core.Path.{ap, ◌∙◌}
 use native.Mathlib.Omega.{arith}
 use lib.Signed.{mag}
 use Rattle.amounts.proofs.Bits.{told, neg_is}
-use Rattle.std.proofs.Common.{rules}
 use Rattle.amounts.proofs.split.Goals as goal
 
 pub overflow_add-result : goal.overflow_add-result

@@ -5,7 +5,6 @@ use mathlib.Core.Path.{◌∙◌}
 use native.Mathlib.Omega.{arith}
 use Rattle.amounts.proofs.Bits.{told}
 use Rattle.amounts.proofs.Sums.{below_fits, above_fits, difference_kept, size_below, size_above, difference_under, difference_from}
-use Rattle.std.proofs.Common.{rules}
 use Rattle.amounts.proofs.sub.Goals as goal
 
 pub overflow_sub-higher : goal.overflow_sub-higher

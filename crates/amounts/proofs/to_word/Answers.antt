@@ -2,7 +2,6 @@ use mathlib.Core.Path.{sym, ap, ◌∙◌}
 use mir.Syntax.{w64}
 use mir.Val.{of_z}
 use Rattle.amounts.proofs.Bits.{told, word_neg}
-use Rattle.std.proofs.Common.{rules}
 use Rattle.amounts.proofs.to_word.Goals as goal
 
 pub returns-then-z-lt0 : goal.returns-then-z-lt0

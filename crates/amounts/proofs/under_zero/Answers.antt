@@ -1,7 +1,6 @@
 use native.Mathlib.Omega.{arith}
 use Rattle.amounts.proofs.Range.{below}
 use Rattle.amounts.proofs.Bits.{under_kept}
-use Rattle.std.proofs.Common.{rules}
 use Rattle.amounts.proofs.under_zero.Goals as goal
 
 pub returns-then-below-gt-TOP : goal.returns-then-below-gt-TOP

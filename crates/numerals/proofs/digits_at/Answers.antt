@@ -1,11 +1,8 @@
 use mathlib.Core.Path.{sym, ◌∙◌}
-use Prim.Native.Nat.{◌-◌}
 use native.Mathlib.Omega.{arith}
 use borrow.Author.Tests.{not-true, not-false}
-use lib.ListN.{length}
 use Rattle.language.specs.Words.{is_digit}
-use Rattle.numerals.proofs.Reading.{stretch_past, stretch_stops, Reading, first, more, done}
-use Rattle.std.proofs.Common.{rules}
+use Rattle.numerals.proofs.Reading.{stretch_past, stretch_stops, first, more, done}
 use Rattle.numerals.proofs.digits_at.Goals as goal
 
 pub loop-i-init : goal.loop-i-init

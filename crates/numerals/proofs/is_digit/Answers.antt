@@ -1,7 +1,6 @@
 use lib.Dec.{leb}
 use borrow.Author.Tests.{le-leb, lt-leb}
 use Rattle.numerals.proofs.Reading.{and_first, and_second}
-use Rattle.std.proofs.Common.{rules}
 use Rattle.numerals.proofs.is_digit.Goals as goal
 
 pub returns-then-b-ge48 : goal.returns-then-b-ge48

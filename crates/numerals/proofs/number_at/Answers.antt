@@ -1,7 +1,6 @@
 use mathlib.Core.Path.{◌∙◌}
 use native.Mathlib.Omega.{arith}
 use Rattle.numerals.proofs.Reading.{none_at, minus_at, plain_at}
-use Rattle.std.proofs.Common.{rules}
 use Rattle.numerals.proofs.number_at.Goals as goal
 
 pub returns-then-text-at : goal.returns-then-text-at

@@ -1,6 +1,5 @@
 use native.Mathlib.Omega.{arith}
 use Rattle.numerals.proofs.Reading.{digit_bounds}
-use Rattle.std.proofs.Common.{rules}
 use Rattle.numerals.proofs.with_digit.Goals as goal
 
 pub overflow_sub-result : goal.overflow_sub-result

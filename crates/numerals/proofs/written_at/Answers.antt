@@ -1,7 +1,6 @@
 use lib.ListN.{drop}
 use Rattle.language.specs.Words.{is_digit, stretch}
 use Rattle.numerals.proofs.Reading.{written_none, written_some}
-use Rattle.std.proofs.Common.{rules}
 use Rattle.numerals.proofs.written_at.Goals as goal
 
 pub returns-then-end-from : goal.returns-then-end-from
