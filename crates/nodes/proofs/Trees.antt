@@ -7,7 +7,7 @@ use Rattle.language.specs.Syntax.{Ident, at, TypeTree, bool, int, arrow, vec, Ty
 use Rattle.language.specs.Places.{place_ident}
 use Rattle.language.specs.Words.{Word, named}
 use Rattle.language.specs.Types.{values}
-use Rattle.language.specs.Table.{Forest, none, leaf, fork, size, first, ident, shape_type, shape_types, shape_arg, shape_args, shape_arg_p, shape_args_p, shape_expr, shape_exprs, shape_expr_p, shape_exprs_p, shape_cmds, shape_def, shape_stat, shape_block}
+use Rattle.language.specs.Table.{Forest, none, leaf, fork, size, first, shape_type, shape_types, shape_arg, shape_args, shape_arg_p, shape_args_p, shape_expr, shape_exprs, shape_expr_p, shape_exprs_p, shape_cmds, shape_def, shape_stat, shape_block}
 use Rattle.language.proofs.Reading.Standing.{Stands, InsideArg, InsideArgs, InsideArgP, InsideArgsP, InsideExpr, InsideExprs, InsideExprP, InsideExprsP, InsideCmds, InsideDef, InsideStat, InsideBlock}
 use Rattle.language.proofs.Reading.Payload.{name_stands}
 use Rattle.nodes.specs.Forests.{Laid, laid_leaf, laid_fork}

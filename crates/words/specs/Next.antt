@@ -7,7 +7,6 @@ use Rattle.language.proofs.Reading.Machine.{code}
 use Rattle.amounts.specs.declared.Amount.{Amount}
 use Rattle.amounts.specs.declared.Amount.TheVariants.{Is, Range, Zero}
 use Rattle.numerals.specs.declared.Read.{Read}
-use Rattle.numerals.specs.declared.Read.TheVariants as Read
 use Rattle.words.specs.declared.Found.{Found}
 use Rattle.words.specs.declared.Found.TheVariants.{End, Mark, Number, Name, Refused}
 

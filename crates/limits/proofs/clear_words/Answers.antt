@@ -1,7 +1,4 @@
-use Prim.Native.Nat.{◌-◌}
-use native.Mathlib.Omega.{arith}
-use Rattle.limits.proofs.Cleared.{Clearing, clearing_first, clearing_more, clearing_done}
-use Rattle.std.proofs.Common.{rules}
+use Rattle.limits.proofs.Cleared.{clearing_first, clearing_more, clearing_done}
 use Rattle.limits.proofs.clear_words.Goals as goal
 
 pub loop-i-init : goal.loop-i-init

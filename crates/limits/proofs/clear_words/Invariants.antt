@@ -1,6 +1,5 @@
 use Prim.Native.Nat.{◌-◌}
-use native.Mathlib.Omega.{arith}
-use Rattle.limits.proofs.Cleared.{Clearing, clearing_first, clearing_more, clearing_done}
+use Rattle.limits.proofs.Cleared.{Clearing}
 use Rattle.limits.proofs.clear_words.Given as goal
 
 abbrev pub invariant-loop-i : goal.invariant-loop-i

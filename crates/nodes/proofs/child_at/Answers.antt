@@ -1,6 +1,5 @@
 -- `nodes::child_at` meets its contract: the first child is split off the word by division.
 use Rattle.nodes.specs.Nodes.{node_at}
-use Rattle.std.proofs.Common.{rules}
 use Rattle.nodes.proofs.child_at.Goals as goal
 
 pub returns : goal.returns

@@ -1,6 +1,5 @@
 -- `nodes::kind_at` meets its contract: the kind is split off the word by division.
 use Rattle.nodes.specs.Nodes.{node_at}
-use Rattle.std.proofs.Common.{rules}
 use Rattle.nodes.proofs.kind_at.Goals as goal
 
 pub returns : goal.returns

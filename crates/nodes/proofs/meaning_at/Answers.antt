@@ -4,7 +4,6 @@ use mathlib.Core.List.{List}
 use Prim.Native.Nat.{ℕ}
 use Rattle.language.specs.Names.{meaning}
 use Rattle.nodes.specs.Names.{meaning_no}
-use Rattle.std.proofs.Common.{rules}
 use Rattle.nodes.proofs.meaning_at.Goals as goal
 
 pub returns : goal.returns

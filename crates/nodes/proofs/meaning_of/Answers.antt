@@ -1,7 +1,6 @@
 -- `nodes::meaning_of` meets its contract: only the name that begins with the same byte is compared.
 use Rattle.nodes.proofs.Nine.{no_bytes, begins, none_begins}
 use Rattle.nodes.proofs.Nine.{told_true, told_false, told_not, told_eq, told_lt, told_add, told_sub, told_mul, told_div}
-use Rattle.std.proofs.Common.{rules}
 use Rattle.nodes.proofs.meaning_of.Goals as goal
 
 pub returns-then-name-eq0 : goal.returns-then-name-eq0

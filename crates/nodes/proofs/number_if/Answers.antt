@@ -1,5 +1,4 @@
 use mathlib.Core.Path.{refl}
-use Rattle.std.proofs.Common.{rules}
 use Rattle.nodes.proofs.number_if.Goals as goal
 
 pub returns-then-same_bytes : goal.returns-then-same_bytes

@@ -1,8 +1,5 @@
 -- `nodes::same_bytes` meets its contract. The loop's invariant: what is left of both rows is the same as far as the rows are. The measure is what is left.
-use Prim.Native.Nat.{◌-◌, ◌≤◌}
-use mathlib.Core.Path.{◌≡◌, refl, sym, ◌∙◌}
-use lib.ListN.{length, drop}
-use Rattle.language.specs.Bytes.{same_bytes}
+use mathlib.Core.Path.{refl, sym, ◌∙◌}
 use Rattle.nodes.proofs.Bytes.{other_lengths, same_more, other_byte, same_end}
 use Rattle.std.proofs.Common.{rules}
 use Rattle.nodes.proofs.same_bytes.Goals as goal

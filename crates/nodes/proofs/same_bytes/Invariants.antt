@@ -1,8 +1,7 @@
 use Prim.Native.Nat.{◌-◌, ◌≤◌}
-use mathlib.Core.Path.{◌≡◌, refl, sym, ◌∙◌}
+use mathlib.Core.Path.{◌≡◌}
 use lib.ListN.{length, drop}
 use Rattle.language.specs.Bytes.{same_bytes}
-use Rattle.nodes.proofs.Bytes.{other_lengths, same_more, other_byte, same_end}
 use Rattle.nodes.proofs.same_bytes.Given as goal
 
 abbrev pub invariant-loop-i : goal.invariant-loop-i

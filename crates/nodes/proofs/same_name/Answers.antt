@@ -1,7 +1,6 @@
 -- `nodes::same_name` meets its contract: the bytes that are compared are those of the two names.
 use mathlib.Core.Path.{◌∙◌, ap₂}
 use Rattle.language.specs.Bytes.{same_bytes}
-use Rattle.std.proofs.Common.{rules}
 use Rattle.nodes.proofs.same_name.Goals as goal
 
 pub returns : goal.returns

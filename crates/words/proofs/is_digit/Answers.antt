@@ -1,5 +1,4 @@
 use Rattle.words.proofs.Classes.{digit, below_digits, above_digits}
-use Rattle.std.proofs.Common.{rules}
 use Rattle.words.proofs.is_digit.Goals as goal
 
 pub returns-in-48-to-57 : goal.returns-in-48-to-57

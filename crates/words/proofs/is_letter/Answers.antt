@@ -1,5 +1,4 @@
 use Rattle.words.proofs.Classes.{capital, small, below_capitals, between, above_letters}
-use Rattle.std.proofs.Common.{rules}
 use Rattle.words.proofs.is_letter.Goals as goal
 
 pub returns-in-65-to-90 : goal.returns-in-65-to-90

@@ -2,7 +2,6 @@ use mathlib.Core.Path.{sym, ap, ◌∙◌}
 use Rattle.words.specs.Sorts.{passes}
 use Rattle.words.specs.declared.Sort.{Sort}
 use Rattle.words.proofs.Classes.{or_yes, or_no}
-use Rattle.std.proofs.Common.{rules}
 use Rattle.words.proofs.is_of.Goals as goal
 
 pub returns-in-Separators : goal.returns-in-Separators

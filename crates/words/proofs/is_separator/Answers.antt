@@ -1,6 +1,5 @@
 use native.Mathlib.Omega.{arith}
 use Rattle.words.proofs.Classes.{return_or_space, tab_or_line, no_separator}
-use Rattle.std.proofs.Common.{rules}
 use Rattle.words.proofs.is_separator.Goals as goal
 
 pub returns-in_default : goal.returns-in_default

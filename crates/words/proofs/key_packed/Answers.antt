@@ -1,6 +1,5 @@
 use mathlib.Core.Path.{refl}
 use borrow.Author.Tests.{ne_eqb}
-use Rattle.std.proofs.Common.{rules}
 use Rattle.words.proofs.key_packed.Goals as goal
 
 pub returns-in-289093342036 : goal.returns-in-289093342036

@@ -3,7 +3,6 @@ use Prim.Native.Nat.{ℕ}
 use Rattle.language.specs.Words.{key_words}
 use Rattle.words.specs.Marks.{number_packed}
 use Rattle.words.proofs.Packing.{key_word_lem}
-use Rattle.std.proofs.Common.{rules}
 use Rattle.words.proofs.key_word.Goals as goal
 
 pub returns : goal.returns

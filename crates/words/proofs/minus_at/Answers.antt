@@ -1,7 +1,6 @@
 use mathlib.Core.Path.{ap, ◌∙◌}
 use Rattle.words.specs.Next.{read_found}
 use Rattle.words.proofs.Fronts.{found_lone, found_arrow, found_minus}
-use Rattle.std.proofs.Common.{rules}
 use Rattle.words.proofs.minus_at.Goals as goal
 
 pub returns-then-text-second : goal.returns-then-text-second

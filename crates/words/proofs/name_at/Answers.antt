@@ -5,7 +5,6 @@ use borrow.Author.Tests.{not-true, not-false}
 use lib.ListN.{length, drop, length-drop}
 use Rattle.language.specs.Words.{is_plain, stretch}
 use Rattle.words.proofs.Stretches.{stretch_take, stretch_short, name_past, name_none, name_some}
-use Rattle.std.proofs.Common.{rules}
 use Rattle.words.proofs.name_at.Goals as goal
 
 pub returns-then-end-at : goal.returns-then-end-at

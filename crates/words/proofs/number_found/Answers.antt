@@ -1,6 +1,5 @@
 use mathlib.Core.Path.{sym, ap, ◌∙◌}
 use Rattle.words.specs.Next.{read_found}
-use Rattle.std.proofs.Common.{rules}
 use Rattle.words.proofs.number_found.Goals as goal
 
 pub returns-in-Number : goal.returns-in-Number

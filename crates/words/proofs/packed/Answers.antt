@@ -1,6 +1,4 @@
-use Prim.Native.Nat.{◌-◌}
-use lib.ListN.{length}
-use Rattle.words.proofs.Loops.{Packing, packing_first, packing_more, packing_done}
+use Rattle.words.proofs.Loops.{packing_first, packing_more, packing_done}
 use Rattle.std.proofs.Common.{rules}
 use Rattle.words.proofs.packed.Goals as goal
 

@@ -1,6 +1,6 @@
 use Prim.Native.Nat.{◌-◌}
 use lib.ListN.{length}
-use Rattle.words.proofs.Loops.{Packing, packing_first, packing_more, packing_done}
+use Rattle.words.proofs.Loops.{Packing}
 use Rattle.words.proofs.packed.Given as goal
 
 abbrev pub invariant-loop-i : goal.invariant-loop-i

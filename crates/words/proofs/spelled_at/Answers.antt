@@ -1,7 +1,6 @@
 use mathlib.Core.Path.{refl}
 use Rattle.words.proofs.Fronts.{found_name, found_key}
 use Rattle.words.proofs.Stretches.{name_whole}
-use Rattle.std.proofs.Common.{rules}
 use Rattle.words.proofs.spelled_at.Goals as goal
 
 pub key_word-key-requires : goal.key_word-key-requires

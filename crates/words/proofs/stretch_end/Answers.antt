@@ -1,10 +1,8 @@
 -- what is left of the stretch ends where it ends
-use Prim.Native.Nat.{◌-◌, ◌+◌}
-use mathlib.Core.Path.{◌≡◌, sym, ap, ◌∙◌}
+use mathlib.Core.Path.{sym, ap, ◌∙◌}
 use native.Mathlib.Omega.{arith}
 use borrow.Author.Tests.{not-true, not-false}
-use lib.ListN.{length, drop}
-use Rattle.language.specs.Words.{stretch}
+use lib.ListN.{length}
 use Rattle.words.specs.Sorts.{passes}
 use Rattle.numerals.proofs.Reading.{stretch_goes, stretch_stops, stretch_past}
 use Rattle.std.proofs.Common.{rules}

@@ -1,11 +1,8 @@
 use Prim.Native.Nat.{◌-◌, ◌+◌}
-use mathlib.Core.Path.{◌≡◌, sym, ap, ◌∙◌}
-use native.Mathlib.Omega.{arith}
-use borrow.Author.Tests.{not-true, not-false}
+use mathlib.Core.Path.{◌≡◌}
 use lib.ListN.{length, drop}
 use Rattle.language.specs.Words.{stretch}
 use Rattle.words.specs.Sorts.{passes}
-use Rattle.numerals.proofs.Reading.{stretch_goes, stretch_stops, stretch_past}
 use Rattle.words.proofs.stretch_end.Given as goal
 
 abbrev pub invariant-loop-e : goal.invariant-loop-e

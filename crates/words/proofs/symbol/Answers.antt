@@ -1,6 +1,5 @@
 use mathlib.Core.Path.{refl}
 use Rattle.words.proofs.Classes.{no_symbol}
-use Rattle.std.proofs.Common.{rules}
 use Rattle.words.proofs.symbol.Goals as goal
 
 pub returns-in-91 : goal.returns-in-91

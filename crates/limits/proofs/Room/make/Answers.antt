@@ -1,5 +1,4 @@
 use Rattle.limits.proofs.Made.{admits, refuses}
-use Rattle.std.proofs.Common.{rules}
 use Rattle.limits.proofs.Room.make.Goals as goal
 
 pub returns-then-n-le-MAX : goal.returns-then-n-le-MAX
