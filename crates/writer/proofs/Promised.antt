@@ -1,7 +1,7 @@
 -- What WRITE promises, from what CHECK promised and what was put on the page.
-use mathlib.Core.Path.{◌≡◌, refl, sym, ◌∙◌, ap, subst}
+use mathlib.Core.Path.{◌≡◌, refl, sym, subst}
 use mathlib.Core.Bool.{Bool, true, false, cond}
-use mathlib.Core.List.{List, [], ◌∷◌, ◌++◌}
+use mathlib.Core.List.{List, ◌++◌}
 use Prim.Native.Nat.{ℕ, ◌≤◌}
 use native.Mathlib.Omega.{arith}
 use borrow.Author.Tests.{ltb-true, ltb-false}
@@ -9,9 +9,9 @@ use lib.Dec.{ltb}
 use lib.ListN.{length, drop}
 use Rattle.language.specs.Syntax.{Block}
 use Rattle.language.specs.Answers.{done, Result, fine, refuse}
-use Rattle.language.specs.Words.{Word, words_of}
+use Rattle.language.specs.Words.{words_of}
 use Rattle.language.specs.Reading.{Reading, a_program}
-use Rattle.language.specs.Promises.{Verdict, typed, verdict_answer, Lent, Checked, Check, too_long, too_small, judged}
+use Rattle.language.specs.Promises.{Verdict, typed, verdict_answer, Lent, Checked, Check, judged}
 use Rattle.verdict.specs.declared.Verdict.{Verdict as Said}
 use Rattle.verdict.specs.declared.Verdict.TheVariants.{Accepted}
 use Rattle.verdict.specs.Answers.{checked}

@@ -1,13 +1,11 @@
 -- The form has room on the page, or it has not.
-use mathlib.Core.Path.{◌≡◌, refl, sym, ◌∙◌, ap}
+use mathlib.Core.Path.{◌≡◌, sym, ◌∙◌, ap}
 use mathlib.Core.Bool.{Bool, cond}
 use mathlib.Core.List.{List, ◌++◌}
 use Prim.Native.Nat.{ℕ, ◌≤◌, ◌<◌}
 use native.Mathlib.Omega.{arith}
 use borrow.Author.Tests.{lt-ltb, le-ltb}
-use lib.Dec.{ltb}
 use lib.ListN.{length, drop}
-use Rattle.writing.specs.declared.Put.{Put}
 use Rattle.writing.specs.declared.Put.TheVariants.{Bytes, Room}
 use Rattle.writing.specs.Pages.{put_of, page_after}
 

@@ -1,12 +1,12 @@
 -- The loops over a text's words: what is left to write, and one turn.
-use mathlib.Core.Path.{◌≡◌, refl, sym, ◌∙◌, ap, ap₂, subst}
+use mathlib.Core.Path.{◌≡◌, refl, sym, ◌∙◌, ap, subst}
 use mathlib.Core.List.{List, [], ◌∷◌, ◌++◌, append_assoc}
 use Prim.Native.Nat.{ℕ, zero, suc, ◌+◌, ◌-◌, ◌≤◌, ◌<◌}
 use native.Mathlib.Omega.{arith}
 use lib.ListN.{length, take, drop, length-append, length-take, length-drop, drop_of_length-le}
 use lib.Seq.{drop-drop, sets, sets-eq}
 use Rattle.language.specs.Syntax.{at}
-use Rattle.language.specs.Answers.{Refusal, Result, fine, refuse}
+use Rattle.language.specs.Answers.{Result, fine, refuse}
 use Rattle.language.specs.Words.{Word, mark, number, named, place_word, Front, gap, word, bad, front, before, words_from, words_of}
 use Rattle.language.proofs.Reading.Payload.{same_words, not_are, front_right, right_place}
 use Rattle.words.specs.Next.{Next, no_more, next, stop, begun, next_in, next_from, told, found_from}
@@ -44,7 +44,8 @@ spelled_in text (b ∷ s) i q w e h = go (front i b s) refl h (spelled_in text s
         let c : take (suc m) (b ∷ s) ≡ between text i e = ap (take (suc m)) q ∙ ap (λ (j : ℕ). take j (drop i text)) (sym k) in
         ap spelling (sym x) ∙ word_copied i b s v m f ∙ ap tidy (c ∙ ap (λ (j : ℕ). between text j e) (sym p))
 
-    go : (f : Front) → front i b s ≡ f → begun i f (next_in s (i + 1)) ≡ next w e → (next_in s (i + 1) ≡ next w e → spelling w ≡ tidy (between text (place_word w) e)) → spelling w ≡ tidy (between text (place_word w) e)
+    go : (f : Front) → front i b s ≡ f → begun i f (next_in s (i + 1)) ≡ next w e → (next_in s (i + 1) ≡ next w e → spelling w ≡ tidy (between text (place_word w) e)) →
+        spelling w ≡ tidy (between text (place_word w) e)
     go gap f h ih = ih h
     go (word v m) f h ih = let x = next_is h in at_place v m f x.0 x.1
     go (bad r) f h ih = absurd (not_next (stop r i) h)
@@ -144,7 +145,13 @@ readable (refuse r p) h = absurd h
 pub counting_first : (text : List ℕ) → Readable (words_of text) → Counting text 0 0
 counting_first text h =
     let r = readable (words_of text) h in
-    record { inside = omega arith; few = omega arith; left = r.0; are = r.1; whole = let e : length (form r.0) ≡ length (house_form_of text) = ap length (sym (form_is text r.0 r.1)) in omega (arith, e) }
+    record {
+      inside = omega arith;
+      few = omega arith;
+      left = r.0;
+      are = r.1;
+      whole = let e : length (form r.0) ≡ length (house_form_of text) = ap length (sym (form_is text r.0 r.1)) in omega (arith, e);
+    }
 
 -- the words after the first
 tail_are : (w : Word) (o : Result (List Word)) (ws : List Word) → before w o ≡ fine ws → (vs : List Word) × (o ≡ fine vs) × (ws ≡ w ∷ vs)

@@ -1,5 +1,5 @@
--- A word of the house form, from the word's own bytes: what the code computes. Nothing here is believed: `Word-Copied` of house_form ties it to the form.
-use Rattle.std.specs.Prelude.{Bool, true, false, cond, not, List, [], ◌∷◌, ◌++◌, ℕ, zero, suc, eqb, drop, get_or}
+-- A word of the house form, from the word's own bytes: what the code computes. Nothing here is believed: `word_copied` of house_form ties it to the form.
+use Rattle.std.specs.Prelude.{Bool, true, false, cond, not, List, [], ◌∷◌, ◌++◌, ℕ, zero, suc, eqb, get_or}
 use Rattle.language.specs.Words.{is_digit}
 use Rattle.house_form.proofs.Copied.{tidy}
 
