@@ -8,8 +8,9 @@
 
 use amounts::Amount;
 use answers::Report;
-use numerals::Read;
 use runner::Limits;
+use std::io;
+use std::io::{Read, Write};
 
 // How many cases were tried, and how many agree.
 #[derive(Clone, Copy)]
@@ -29,8 +30,8 @@ fn number_in(amount: Amount) -> i64 {
 // The number that a line writes at a column, 0 where there is none.
 pub fn number_at(line: &[u8], at: usize) -> i64 {
     match numerals::number_at(line, at) {
-        Read::Number(_, amount) => number_in(amount),
-        Read::Not => 0,
+        numerals::Read::Number(_, amount) => number_in(amount),
+        numerals::Read::Not => 0,
     }
 }
 
@@ -39,22 +40,27 @@ pub fn count_at(line: &[u8], at: usize) -> u64 {
 }
 
 // Reads a script of so many bytes and the line end behind it, and answers its length; where the text has no room it reads nothing and answers `last`.
-pub fn read_script(text: &mut [u8], length: usize, last: usize) -> usize {
+pub fn read_script(
+    input: &mut impl Read,
+    text: &mut [u8],
+    length: usize,
+    last: usize,
+) -> io::Result<usize> {
     if text.len() <= length {
-        return last;
+        return Ok(last);
     }
     // with the line end behind it
     let end = length + 1;
-    io::read_full(0, &mut text[0..end]);
-    length
+    lines::read_full(input, &mut text[0..end])?;
+    Ok(length)
 }
 
 // Reads the script that follows, where one does, and answers its length; else the length of the last one.
-fn script(line: &[u8], text: &mut [u8], last: usize) -> usize {
+fn script(input: &mut impl Read, line: &[u8], text: &mut [u8], last: usize) -> io::Result<usize> {
     if count_at(line, 0) == 0 {
-        return last;
+        return Ok(last);
     }
-    read_script(text, count_at(line, 8) as usize, last)
+    read_script(input, text, count_at(line, 8) as usize, last)
 }
 
 fn as_expected(line: &[u8], report: Report) -> bool {
@@ -69,67 +75,75 @@ fn as_expected(line: &[u8], report: Report) -> bool {
 }
 
 // The next line's number, which is expected.
-fn next_number() -> i64 {
+fn next_number(input: &mut impl Read) -> io::Result<i64> {
     let mut line = [0u8; 24];
-    io::read_full(0, &mut line);
-    number_at(&line, 0)
+    lines::read_full(input, &mut line)?;
+    Ok(number_at(&line, 0))
 }
 
 // Reads the numbers expected, and compares each.
-fn numbers_agree(output: &[i64], count: u64) -> bool {
+fn numbers_agree(input: &mut impl Read, output: &[i64], count: u64) -> io::Result<bool> {
     let mut agree = true;
     let mut left = count;
     let mut i: usize = 0;
     while i < output.len() {
         if left == 0 {
-            return agree;
+            return Ok(agree);
         }
-        let number = next_number();
+        let number = next_number(input)?;
         if number != output[i] {
             agree = false;
         }
         left -= 1;
         i += 1;
     }
-    agree
+    Ok(agree)
 }
 
 // A case's name.
-fn say_name(line: &[u8]) {
+fn say_name(out: &mut impl Write, line: &[u8]) -> io::Result<()> {
     if 135 <= line.len() {
-        lines::text(&line[112..135]);
+        lines::text(out, &line[112..135])?;
     }
+    Ok(())
 }
 
-fn say_report(report: Report) {
+fn say_report(out: &mut impl Write, report: Report) -> io::Result<()> {
     let answer = report.answer;
-    lines::text(b" answers ");
-    lines::count(answers::number_of(answer));
-    lines::text(b" at ");
-    lines::count(answers::place_of(answer));
-    lines::text(b" units ");
-    lines::count(report.units);
-    lines::text(b" bindings ");
-    lines::count(report.bindings);
-    lines::text(b" cells ");
-    lines::count(report.cells);
-    lines::text(b" numbers ");
-    lines::count(report.numbers);
-    lines::text(b" made at ");
-    lines::count(answers::made_of(answer));
+    lines::text(out, b" answers ")?;
+    lines::count(out, answers::number_of(answer))?;
+    lines::text(out, b" at ")?;
+    lines::count(out, answers::place_of(answer))?;
+    lines::text(out, b" units ")?;
+    lines::count(out, report.units)?;
+    lines::text(out, b" bindings ")?;
+    lines::count(out, report.bindings)?;
+    lines::text(out, b" cells ")?;
+    lines::count(out, report.cells)?;
+    lines::text(out, b" numbers ")?;
+    lines::count(out, report.numbers)?;
+    lines::text(out, b" made at ")?;
+    lines::count(out, answers::made_of(answer))
 }
 
 // Says of a case what it came to: of each where all are to be named, else only of one that differs.
-fn say(line: &[u8], named: bool, agrees: bool, report: Report) {
+fn say(
+    out: &mut impl Write,
+    line: &[u8],
+    named: bool,
+    agrees: bool,
+    report: Report,
+) -> io::Result<()> {
     if agrees {
         if named {
-            say_name(line);
-            lines::text(b" ok\n");
+            say_name(out, line)?;
+            lines::text(out, b" ok\n")?;
         }
+        Ok(())
     } else {
-        say_name(line);
-        say_report(report);
-        lines::text(b"\n");
+        say_name(out, line)?;
+        say_report(out, report)?;
+        lines::text(out, b"\n")
     }
 }
 
@@ -144,29 +158,48 @@ fn limits_in(line: &[u8]) -> Limits {
 }
 
 // Runs one case's script and compares.
-fn try_case(line: &[u8], named: bool, text: &[u8], length: usize) -> bool {
+fn try_case(
+    input: &mut impl Read,
+    out: &mut impl Write,
+    line: &[u8],
+    named: bool,
+    text: &[u8],
+    length: usize,
+) -> io::Result<bool> {
     if text.len() < length {
-        return false;
+        return Ok(false);
     }
     let mut output = [0i64; 4096];
     let report = runner::run(&text[0..length], limits_in(line), &mut output);
-    let numbers = numbers_agree(&output, count_at(line, 96));
+    let numbers = numbers_agree(input, &output, count_at(line, 96))?;
     let agrees = as_expected(line, report) && numbers;
-    say(line, named, agrees, report);
-    agrees
+    say(out, line, named, agrees, report)?;
+    Ok(agrees)
 }
 
 // The same over the reader's arrays.
-fn try_in(line: &[u8; 136], named: bool, text: &[u8; 32768], length: usize) -> bool {
-    try_case(line, named, text, length)
+fn try_in(
+    input: &mut impl Read,
+    out: &mut impl Write,
+    line: &[u8; 136],
+    named: bool,
+    text: &[u8; 32768],
+    length: usize,
+) -> io::Result<bool> {
+    try_case(input, out, line, named, text, length)
 }
 
-fn next_script(line: &[u8; 136], text: &mut [u8; 32768], last: usize) -> usize {
-    script(line, text, last)
+fn next_script(
+    input: &mut impl Read,
+    line: &[u8; 136],
+    text: &mut [u8; 32768],
+    last: usize,
+) -> io::Result<usize> {
+    script(input, line, text, last)
 }
 
-fn next_line(line: &mut [u8; 136]) -> bool {
-    io::read_full(0, line) == 136
+fn next_line(input: &mut impl Read, line: &mut [u8; 136]) -> io::Result<bool> {
+    Ok(lines::read_full(input, line)? == 136)
 }
 
 pub fn counted(tally: Tally, agrees: bool) -> Tally {
@@ -184,29 +217,28 @@ pub fn counted(tally: Tally, agrees: bool) -> Tally {
     }
 }
 
-pub fn say_tally(tally: Tally) {
-    lines::count(tally.agree);
-    lines::text(b" of ");
-    lines::count(tally.tried);
-    lines::text(b" agree\n");
+pub fn say_tally(out: &mut impl Write, tally: Tally) -> io::Result<()> {
+    lines::count(out, tally.agree)?;
+    lines::text(out, b" of ")?;
+    lines::count(out, tally.tried)?;
+    lines::text(out, b" agree\n")
 }
 
 // Tries every case, of no more than a million, and says how many agree.
-pub fn try_all(named: bool) {
+pub fn try_all(input: &mut impl Read, out: &mut impl Write, named: bool) -> io::Result<()> {
     let mut line = [0u8; 136];
     let mut text = [0u8; 32768];
     let mut length: usize = 0;
     let mut tally = Tally { tried: 0, agree: 0 };
     let mut left: u64 = 1_000_000;
     while 0 < left {
-        if !next_line(&mut line) {
-            say_tally(tally);
-            return;
+        if !next_line(input, &mut line)? {
+            return say_tally(out, tally);
         }
-        length = next_script(&line, &mut text, length);
-        let agrees = try_in(&line, named, &text, length);
+        length = next_script(input, &line, &mut text, length)?;
+        let agrees = try_in(input, out, &line, named, &text, length)?;
         tally = counted(tally, agrees);
         left -= 1;
     }
-    say_tally(tally);
+    say_tally(out, tally)
 }

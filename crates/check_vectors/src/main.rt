@@ -5,7 +5,8 @@
 
 #![tactic(auto)]
 
-use libc::STDOUT_FILENO;
+use std::io;
+use std::io::{Read, Write};
 
 #[derive(Clone, Copy)]
 struct Line {
@@ -45,59 +46,59 @@ fn number_in(line: &[u8; 17]) -> u64 {
     n
 }
 
-fn next_line() -> Line {
+fn next_line(input: &mut impl Read) -> io::Result<Line> {
     let mut line = [0u8; 17];
-    let got = io::read_full(0, &mut line);
-    Line {
+    let got = lines::read_full(input, &mut line)?;
+    Ok(Line {
         whole: got == 17,
         number: number_in(&line),
-    }
+    })
 }
 
-fn next_number() -> u64 {
-    let line = next_line();
-    line.number
+fn next_number(input: &mut impl Read) -> io::Result<u64> {
+    let line = next_line(input)?;
+    Ok(line.number)
 }
 
 // The rest of a case whose first line was read.
-fn next_case(number: u64) -> Case {
-    let place = next_number();
-    let length = next_number() as usize;
-    let words = next_number();
-    Case {
+fn next_case(input: &mut impl Read, number: u64) -> io::Result<Case> {
+    let place = next_number(input)?;
+    let length = next_number(input)? as usize;
+    let words = next_number(input)?;
+    Ok(Case {
         number,
         place,
         length,
         words,
-    }
+    })
 }
 
 // Reads the script with the line end behind it.
-fn next_script(text: &mut [u8], length: usize) -> bool {
+fn next_script(input: &mut impl Read, text: &mut [u8], length: usize) -> io::Result<bool> {
     if text.len() <= length {
-        return false;
+        return Ok(false);
     }
     let end = length + 1;
-    io::read_full(0, &mut text[0..end]) == end
+    Ok(lines::read_full(input, &mut text[0..end])? == end)
 }
 
 // Reads the words expected, and compares each.
-fn words_agree(tree: &[u64], words: u64) -> bool {
+fn words_agree(input: &mut impl Read, tree: &[u64], words: u64) -> io::Result<bool> {
     let mut agree = true;
     let mut left = words;
     let mut i: usize = 0;
     while i < tree.len() {
         if left == 0 {
-            return agree;
+            return Ok(agree);
         }
-        let word = next_number();
+        let word = next_number(input)?;
         if word != tree[i] {
             agree = false;
         }
         left -= 1;
         i += 1;
     }
-    agree
+    Ok(agree)
 }
 
 fn zero_from(table: &[u64], from: usize) -> bool {
@@ -123,6 +124,7 @@ fn tree_end(number: u64, words: u64, size: usize) -> usize {
 }
 
 fn try_case(
+    input: &mut impl Read,
     case: Case,
     text: &[u8],
     tree: &mut [u64],
@@ -130,10 +132,10 @@ fn try_case(
     stack: &mut [u64],
     scopes: &mut [u64],
     notes: &mut [u64],
-) -> bool {
+) -> io::Result<bool> {
     let length = case.length;
     if text.len() < length {
-        return false;
+        return Ok(false);
     }
     let answer = answers::answer_to(verdict::check(
         &text[0..length],
@@ -144,18 +146,21 @@ fn try_case(
         notes,
     ));
     let number = answers::number_of(answer);
-    let tree_agrees = words_agree(tree, case.words);
-    tree_agrees
-        && number == case.number
-        && answers::place_of(answer) == case.place
-        && zero_from(tree, tree_end(number, case.words, tree.len()))
-        && zero_from(words, 0)
-        && zero_from(stack, 0)
-        && zero_from(scopes, 0)
-        && zero_from(notes, 0)
+    let tree_agrees = words_agree(input, tree, case.words)?;
+    Ok(
+        tree_agrees
+            && number == case.number
+            && answers::place_of(answer) == case.place
+            && zero_from(tree, tree_end(number, case.words, tree.len()))
+            && zero_from(words, 0)
+            && zero_from(stack, 0)
+            && zero_from(scopes, 0)
+            && zero_from(notes, 0),
+    )
 }
 
 fn try_in(
+    input: &mut impl Read,
     case: Case,
     text: &mut [u8; 32768],
     tree: &mut [u64; 4096],
@@ -163,11 +168,11 @@ fn try_in(
     stack: &mut [u64; 4097],
     scopes: &mut [u64; 4096],
     notes: &mut [u64; 4096],
-) -> bool {
-    if !next_script(text, case.length) {
-        return false;
+) -> io::Result<bool> {
+    if !next_script(input, text, case.length)? {
+        return Ok(false);
     }
-    try_case(case, text, tree, words, stack, scopes, notes)
+    try_case(input, case, text, tree, words, stack, scopes, notes)
 }
 
 fn counted(tally: Tally, agrees: bool) -> Tally {
@@ -185,15 +190,16 @@ fn counted(tally: Tally, agrees: bool) -> Tally {
     }
 }
 
-fn print_tally(tally: Tally) {
-    io::print_decimal(STDOUT_FILENO, tally.agree);
-    io::write_all(STDOUT_FILENO, b" of ");
-    io::print_decimal(STDOUT_FILENO, tally.tried);
-    io::write_all(STDOUT_FILENO, b" agree\n");
+fn print_tally(out: &mut impl Write, tally: Tally) -> io::Result<()> {
+    lines::count(out, tally.agree)?;
+    lines::text(out, b" of ")?;
+    lines::count(out, tally.tried)?;
+    lines::text(out, b" agree\n")
 }
 
 // Tries every case, of no more than a million.
-fn main() {
+fn main(rt: HostRuntime) -> io::Result<()> {
+    let mut input = rt.stdin();
     let mut text = [0u8; 32768];
     let mut tree = [0u64; 4096];
     let mut words = [0u64; 4096];
@@ -203,13 +209,13 @@ fn main() {
     let mut tally = Tally { tried: 0, agree: 0 };
     let mut left: u64 = 1_000_000;
     while 0 < left {
-        let line = next_line();
+        let line = next_line(&mut input)?;
         if !line.whole {
-            print_tally(tally);
-            return;
+            return print_tally(&mut rt.stdout(), tally);
         }
-        let case = next_case(line.number);
+        let case = next_case(&mut input, line.number)?;
         let agrees = try_in(
+            &mut input,
             case,
             &mut text,
             &mut tree,
@@ -217,9 +223,9 @@ fn main() {
             &mut stack,
             &mut scopes,
             &mut notes,
-        );
+        )?;
         tally = counted(tally, agrees);
         left -= 1;
     }
-    print_tally(tally);
+    print_tally(&mut rt.stdout(), tally)
 }

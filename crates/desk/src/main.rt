@@ -6,6 +6,8 @@
 ghost use Rattle.std.specs.Prelude.{◌≤◌};
 
 use answers::Report;
+use std::io;
+use std::io::Write;
 
 // n, or one less where the table is the one to be too small.
 fn entries(n: usize, is_short: bool) -> usize
@@ -57,25 +59,27 @@ fn answer_with_short(table: u64) -> Report {
 }
 
 // Says what RUN answers where a table is too small.
-fn say_short(table: u64) {
+fn say_short(out: &mut impl Write, table: u64) -> io::Result<()> {
     let report = answer_with_short(table);
     let answer = report.answer;
-    lines::text(b"table ");
-    lines::count(table);
-    lines::text(b" too small: ");
-    lines::count(answers::number_of(answer));
-    lines::text(b"\n");
+    lines::text(out, b"table ")?;
+    lines::count(out, table)?;
+    lines::text(out, b" too small: ")?;
+    lines::count(out, answers::number_of(answer))?;
+    lines::text(out, b"\n")
 }
 
-fn say_all_short() {
+fn say_all_short(out: &mut impl Write) -> io::Result<()> {
     let mut table: u64 = 0;
     while table <= 9 {
-        say_short(table);
+        say_short(out, table)?;
         table += 1;
     }
+    Ok(())
 }
 
-fn main() {
-    cases::try_all(true);
-    say_all_short();
+fn main(rt: HostRuntime) -> io::Result<()> {
+    let mut out = rt.stdout();
+    cases::try_all(&mut rt.stdin(), &mut out, true)?;
+    say_all_short(&mut out)
 }

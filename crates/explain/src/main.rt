@@ -2,9 +2,11 @@
 
 #![tactic(auto)]
 
-fn main() {
+use std::io;
+
+fn main(rt: HostRuntime) -> io::Result<()> {
     // one byte more than a script may have, so that a longer one is refused
     let mut text = [0u8; 16385];
-    let length = io::read_full(0, &mut text);
-    explaining::explain(&text[..length], runner::usual_limits());
+    let length = lines::read_full(&mut rt.stdin(), &mut text)?;
+    explaining::explain(&mut rt.stdout(), &text[..length], runner::usual_limits())
 }

@@ -6,15 +6,18 @@
 #![tactic(auto)]
 
 use runner::Limits;
+use std::io;
+use std::io::{Read, Write};
 
-fn next_line(line: &mut [u8; 80]) -> bool {
-    io::read_full(0, line) == 80
+fn next_line(input: &mut impl Read, line: &mut [u8; 80]) -> io::Result<bool> {
+    Ok(lines::read_full(input, line)? == 80)
 }
 
-fn say_title(line: &[u8]) {
+fn say_title(out: &mut impl Write, line: &[u8]) -> io::Result<()> {
     if 80 <= line.len() {
-        lines::text(&line[48..80]);
+        lines::text(out, &line[48..80])?;
     }
+    Ok(())
 }
 
 fn limits_in(line: &[u8]) -> Limits {
@@ -27,28 +30,42 @@ fn limits_in(line: &[u8]) -> Limits {
     }
 }
 
-fn explain_next(line: &[u8], text: &mut [u8]) {
-    let length = cases::read_script(text, cases::count_at(line, 0) as usize, 0);
-    say_title(line);
+fn explain_next(
+    input: &mut impl Read,
+    out: &mut impl Write,
+    line: &[u8],
+    text: &mut [u8],
+) -> io::Result<()> {
+    let length = cases::read_script(input, text, cases::count_at(line, 0) as usize, 0)?;
+    say_title(out, line)?;
     if length <= text.len() {
-        explaining::explain(&text[0..length], limits_in(line));
+        explaining::explain(out, &text[0..length], limits_in(line))?;
     }
+    Ok(())
 }
 
-fn explain_in(line: &[u8; 80], text: &mut [u8; 16400]) {
-    explain_next(line, text);
+fn explain_in(
+    input: &mut impl Read,
+    out: &mut impl Write,
+    line: &[u8; 80],
+    text: &mut [u8; 16400],
+) -> io::Result<()> {
+    explain_next(input, out, line, text)
 }
 
 // No more than a thousand scripts.
-fn main() {
+fn main(rt: HostRuntime) -> io::Result<()> {
+    let mut input = rt.stdin();
+    let mut out = rt.stdout();
     let mut line = [0u8; 80];
     let mut text = [0u8; 16400];
     let mut left: u64 = 1_000;
     while 0 < left {
-        if !next_line(&mut line) {
-            return;
+        if !next_line(&mut input, &mut line)? {
+            return Ok(());
         }
-        explain_in(&line, &mut text);
+        explain_in(&mut input, &mut out, &line, &mut text)?;
         left -= 1;
     }
+    Ok(())
 }

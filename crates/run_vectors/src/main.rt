@@ -2,6 +2,8 @@
 
 #![tactic(auto)]
 
-fn main() {
-    cases::try_all(false);
+use std::io;
+
+fn main(rt: HostRuntime) -> io::Result<()> {
+    cases::try_all(&mut rt.stdin(), &mut rt.stdout(), false)
 }

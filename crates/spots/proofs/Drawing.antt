@@ -13,7 +13,7 @@ use Rattle.spots.specs.declared.Row.TheVariants.{Line, Caret}
 use Rattle.spots.specs.Lines.{spot_of}
 use Rattle.spots.specs.Shown.{drawn, part, from_of, to_of, marks, line_around, line_shown, caret_under, caret_shown}
 use Rattle.spots.specs.Written.{Added, Written}
-use Rattle.spots.proofs.Lines.{Lies, lies}
+use Rattle.spots.proofs.Lines.{lies}
 
 pub added_none : (n : ℕ) (l : List ℕ) → Added n l [] n l
 added_none n l = record { count = omega arith; bytes = sym (append-nil (take n l)); size = refl }

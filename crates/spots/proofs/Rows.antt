@@ -1,9 +1,9 @@
 -- The claims of the two rows.
 use mathlib.Core.Path.{◌≡◌, refl, sym, ap, ◌∙◌}
-use mathlib.Core.Logic.{◌⊎◌, inl, inr}
+use mathlib.Core.Logic.{inl, inr}
 use mathlib.Core.Bool.{Bool, true, false, cond}
 use mathlib.Core.List.{List, [], ◌∷◌, ◌++◌, map, append_assoc}
-use Prim.Native.Nat.{ℕ, zero, suc, ◌+◌, ◌-◌, ◌≤◌, ◌<◌}
+use Prim.Native.Nat.{ℕ, zero, suc, ◌+◌, ◌-◌, ◌<◌}
 use native.Mathlib.Nat.{not-suc-le-zero, le_of_suc-le-suc}
 use native.Mathlib.Omega.{arith}
 use lib.Dec.{eqb, ltb}
@@ -11,9 +11,8 @@ use lib.ListN.{length, take, drop, get_or, length-map, get_or-append}
 use lib.Seq.{take-append-le, take-append-add, take-take, get_or-append-add, get_or-take, get_or-drop}
 use borrow.Author.Tests.{ltb-false}
 use Rattle.spots.specs.declared.Spot.{Spot}
-use Rattle.spots.specs.declared.Row.TheVariants.{Line, Caret}
 use Rattle.spots.specs.Lines.{spot_of}
-use Rattle.spots.specs.Shown.{shown, under, drawn, part, from_of, to_of, marks, line_around, line_shown, caret_under, caret_shown}
+use Rattle.spots.specs.Shown.{shown, under, part, from_of, to_of, marks, line_around, line_shown, caret_under, caret_shown}
 use Rattle.spots.specs.Claims.{Plain, AllPlain, RowsPlain, shown_before, CaretUnder, PlaceShown}
 use Rattle.spots.proofs.Lines.{Lies, lies}
 use Rattle.spots.proofs.Drawing.{part_length, map_append}

@@ -3,46 +3,43 @@
 #![tactic(auto)]
 
 use answers::Answer;
-use libc::STDOUT_FILENO;
+use std::io;
+use std::io::Write;
 
-fn print_word(word: u64) {
-    io::print_hex(STDOUT_FILENO, word, 16);
-    io::write_all(STDOUT_FILENO, b"\n");
+fn print_word(out: &mut impl Write, word: u64) -> io::Result<()> {
+    writeln!(out, "{word:016x}")
 }
 
 // The words up to the zeros behind the tree: no node's word is 0.
-fn print_tree(tree: &[u64]) {
+fn print_tree(out: &mut impl Write, tree: &[u64]) -> io::Result<()> {
     let mut i: usize = 0;
     while i < tree.len() {
         if tree[i] == 0 {
-            return;
+            return Ok(());
         }
-        print_word(tree[i]);
+        print_word(out, tree[i])?;
         i += 1;
     }
+    Ok(())
 }
 
-fn print_refusal(number: u64, place: u64) {
-    io::write_all(STDOUT_FILENO, b"refused ");
-    io::print_decimal(STDOUT_FILENO, number);
-    io::write_all(STDOUT_FILENO, b" at ");
-    io::print_decimal(STDOUT_FILENO, place);
-    io::write_all(STDOUT_FILENO, b"\n");
+fn print_refusal(out: &mut impl Write, number: u64, place: u64) -> io::Result<()> {
+    writeln!(out, "refused {number} at {place}")
 }
 
-fn print(answer: Answer, tree: &[u64]) {
+fn print(out: &mut impl Write, answer: Answer, tree: &[u64]) -> io::Result<()> {
     let number = answers::number_of(answer);
     if number == 0 {
-        print_tree(tree);
+        print_tree(out, tree)
     } else {
-        print_refusal(number, answers::place_of(answer));
+        print_refusal(out, number, answers::place_of(answer))
     }
 }
 
-fn main() {
+fn main(rt: HostRuntime) -> io::Result<()> {
     // one byte more than a script may have, so that a longer one is refused
     let mut text = [0u8; 16385];
-    let length = io::read_full(0, &mut text);
+    let length = lines::read_full(&mut rt.stdin(), &mut text)?;
     let mut tree = [0u64; 4096];
     let mut words = [0u64; 4096];
     let mut stack = [0u64; 4097];
@@ -56,5 +53,5 @@ fn main() {
         &mut scopes,
         &mut notes,
     );
-    print(answers::answer_to(verdict), &tree);
+    print(&mut rt.stdout(), answers::answer_to(verdict), &tree)
 }

@@ -1,0 +1,5 @@
+-- It ends: fewer scripts are left at each turn.
+use Rattle.explained.proofs.main.Given as goal
+
+abbrev pub decreases-loop-left : goal.decreases-loop-left
+decreases-loop-left l = l.left
