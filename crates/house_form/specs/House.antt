@@ -1,6 +1,6 @@
 -- The house form of a text (request 3): its words, each in its one spelling, with one space between them and none at the ends; and what WRITE promises.
-use Rattle.std.specs.Prelude.{◌/◌, ◌%◌}
-use Rattle.language.specs.Library.{◌≡◌, ℕ, zero, suc, ◌+◌, ◌≤◌, ◌<◌, String, ℤ, pos, negsuc, true, false, ltb, List, [], ◌∷◌, ◌++◌, length, drop}
+use Rattle.std.specs.Prelude.{◌/◌, ◌%◌, ◌≡◌, ◌+◌, ◌≤◌, ◌<◌, ◌∷◌, ◌++◌}
+use Rattle.language.specs.Library.{ℕ, zero, suc, String, ℤ, pos, negsuc, true, false, ltb, List, [], length, drop}
 use Rattle.language.specs.Syntax.{at, Block}
 use Rattle.language.specs.Bytes.{bytes_of}
 use Rattle.language.specs.Answers.{Refusal, Answer, done, refused, number_of, place_of, Result, fine, refuse}

@@ -1,6 +1,6 @@
 -- What is claimed of the house form and of WRITE, each claim as a type with a sentence; proofs/Claims.antt proves each.
-use Rattle.std.specs.Prelude.{take}
-use Rattle.language.specs.Library.{◌≡◌, ◌↔◌, ℕ, ◌+◌, ◌-◌, ◌≤◌, String, true, List, [], ◌∷◌, map, length}
+use Rattle.std.specs.Prelude.{take, ◌≡◌, ◌↔◌, ◌+◌, ◌-◌, ◌≤◌, ◌∷◌}
+use Rattle.language.specs.Library.{ℕ, String, true, List, [], map, length}
 use Rattle.language.specs.Syntax.{Block}
 use Rattle.language.specs.Bytes.{bytes_of}
 use Rattle.language.specs.Answers.{done, fine}

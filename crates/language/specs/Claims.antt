@@ -1,6 +1,6 @@
 -- What is claimed of the language, each claim as a type with a sentence; proofs/Claims.antt proves each.
-use Rattle.language.specs.Library.{◌≡◌, ◌↔◌, ◌⊎◌, ℕ, zero, suc, ◌+◌, ◌≤◌, ℤ, true, List, [], ◌∷◌, ◌++◌, map, length, Option, some, ◌<◌, pos, nat_abs, ◌+ℤ◌, ◌*ℤ◌, non_neg}
-use Rattle.std.specs.Prelude.{take}
+use Rattle.language.specs.Library.{ℕ, zero, suc, ℤ, true, List, [], map, length, Option, some, pos, nat_abs, non_neg}
+use Rattle.std.specs.Prelude.{take, ◌≡◌, ◌↔◌, ◌⊎◌, ◌+◌, ◌≤◌, ◌∷◌, ◌++◌, ◌<◌, ◌+ℤ◌, ◌*ℤ◌}
 use Rattle.language.specs.Syntax.{Name, at, TypeTree, int, arg, Expr, num, name, if_expr, and, or, app, abs, alloc, nth_expr, len, vset, one_expr, ExprP, val, adr, last, def_then, fun_block, Def, var, Stat, echo, set, if_stat, while, call, return, Block, block}
 use Rattle.language.specs.Bytes.{bytes_of}
 use Rattle.language.specs.Answers.{Refusal, FUEL, DEPTH, CELLS, BINDINGS, OUTPUT, RANGE, ZERO, UNSET, SIZE, INDEX, Stop, limit, error, done, stopped, Result, fine}

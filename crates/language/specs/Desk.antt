@@ -1,5 +1,6 @@
 -- Scripts the desk keeps (document 01, those marked *): a text, limits, and what the rules say of it, from reading to the run's end.
-use Rattle.language.specs.Library.{◌≡◌, ℕ, String, ℤ, pos, negsuc, List, [], ◌∷◌, some}
+use Rattle.std.specs.Prelude.{◌≡◌, ◌∷◌}
+use Rattle.language.specs.Library.{ℕ, String, ℤ, pos, negsuc, List, [], some}
 use Rattle.language.specs.Syntax.{Block}
 use Rattle.language.specs.Bytes.{bytes_of}
 use Rattle.language.specs.Answers.{SYNTAX, TYPE, FUEL, DEPTH, ZERO, UNSET, limit, error, Answer, done, stopped, Result}

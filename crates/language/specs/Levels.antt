@@ -1,7 +1,8 @@
 -- Levels, document 01: a block, a parenthesised expression, an `(adr x)`, an abstraction (to the end of its body), a function type and a vec type
 -- (request 5) each open one level at their first word; parameter lists open none.
 -- `levels e d l`: the level that each word of the tree `e` opens, 0 for none, in text order, where `d` levels are open; before those in `l`.
-use Rattle.language.specs.Library.{ℕ, suc, List, [], ◌∷◌}
+use Rattle.std.specs.Prelude.{◌∷◌}
+use Rattle.language.specs.Library.{ℕ, suc, List, []}
 use Rattle.language.specs.Syntax.{TypeTree, bool, int, arrow, vec, TypeTrees, one_type, more_types, Arg, arg, ArgP, val_arg, var_arg, Expr, num, name, if_expr, and, or, app, abs, alloc, nth_expr, len, vset, Exprs, one_expr, more_exprs, ExprP, val, adr, Cmds, last, def_then, stat_then, Def, const, fun, fun_rec, fun_block, fun_rec_block, var, proc, proc_rec, Stat, echo, set, if_stat, while, call, return, Block, block}
 
 unfoldable mutual

@@ -1,5 +1,6 @@
 -- What a name is by itself. The nine names of the language are ordinary names (000, section 3.1): one function tells them from the others.
-use Rattle.language.specs.Library.{Bool, true, false, cond, List, [], ◌∷◌, Option, none, some}
+use Rattle.std.specs.Prelude.{◌∷◌}
+use Rattle.language.specs.Library.{Bool, true, false, cond, List, [], Option, none, some}
 use Rattle.language.specs.Syntax.{Name, at, Expr, num, name, if_expr, and, or, app, abs, alloc, nth_expr, len, vset}
 use Rattle.language.specs.Bytes.{bytes_of, same_bytes}
 

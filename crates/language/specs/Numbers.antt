@@ -1,5 +1,6 @@
 -- Numbers: their range, and what the operators compute (000's π₁ and π₂).
-use Rattle.language.specs.Library.{ℕ, zero, suc, ℤ, pos, negsuc, neg_ℤ, ◌+ℤ◌, ◌-ℤ◌, ◌*ℤ◌, lt_z, le_z, shr_z, Bool, true, false, cond, List, [], ◌∷◌, Option, none, some}
+use Rattle.std.specs.Prelude.{◌+ℤ◌, ◌-ℤ◌, ◌*ℤ◌, ◌∷◌}
+use Rattle.language.specs.Library.{ℕ, zero, suc, ℤ, pos, negsuc, neg_ℤ, lt_z, le_z, shr_z, Bool, true, false, cond, List, [], Option, none, some}
 use Rattle.language.specs.Answers.{ErrorStop, RANGE, ZERO}
 use Rattle.language.specs.Names.{Op, not, eq, lt, add, sub, mul, div}
 

@@ -1,6 +1,7 @@
 -- Where TYPE and DOUBLE are reported (document 01, request 1): the first node, in the order in which nodes end, that cannot be typed.
 -- Children end before their parents, so at the first such node every part is typed and the node's own rule cannot be met.
-use Rattle.language.specs.Library.{ℕ, List, [], ◌∷◌, ◌++◌, Option, none, some}
+use Rattle.std.specs.Prelude.{◌∷◌, ◌++◌}
+use Rattle.language.specs.Library.{ℕ, List, [], Option, none, some}
 use Rattle.language.specs.Syntax.{Name, Ident, at, TypeTree, bool, int, arrow, vec, TypeTrees, one_type, more_types, ArgP, Expr, num, name, if_expr, and, or, app, abs, alloc, nth_expr, len, vset, Exprs, one_expr, more_exprs, ExprP, val, adr, Cmds, last, def_then, stat_then, Def, const, fun, fun_rec, fun_block, fun_rec_block, var, proc, proc_rec, Stat, echo, set, if_stat, while, call, return, Block, block}
 use Rattle.language.specs.Places.{place_expr, place_param, place_def, place_stat, place_block}
 use Rattle.language.specs.Answers.{Refusal, TYPE, DOUBLE}

@@ -1,6 +1,7 @@
 -- What each public job answers and what it leaves in every table, for all inputs (document 01, "When the gate says no" and "Left behind").
 -- NAME's promise is `name_at` of Words.
-use Rattle.language.specs.Library.{◌≡◌, ℕ, ◌-◌, ◌≤◌, ◌<◌, ℤ, Bool, true, false, cond, leb, List, [], ◌∷◌, ◌++◌, length, drop, replicate, some}
+use Rattle.std.specs.Prelude.{◌≡◌, ◌-◌, ◌≤◌, ◌<◌, ◌∷◌, ◌++◌}
+use Rattle.language.specs.Library.{ℕ, ℤ, Bool, true, false, cond, leb, List, [], length, drop, replicate, some}
 use Rattle.language.specs.Syntax.{Block}
 use Rattle.language.specs.Answers.{Refusal, LENGTH, LIMIT, TABLE, Answer, done, refused, Result, fine, refuse}
 use Rattle.language.specs.Table.{table}

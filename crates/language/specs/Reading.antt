@@ -1,5 +1,6 @@
 -- What reading promises, document 01: a text has one answer, its tree or a refusal with its number and place.
-use Rattle.language.specs.Library.{◌≡◌, ℕ, suc, ◌≤◌, List, [], ◌∷◌, ◌++◌, length}
+use Rattle.std.specs.Prelude.{◌≡◌, ◌≤◌, ◌∷◌, ◌++◌}
+use Rattle.language.specs.Library.{ℕ, suc, List, [], length}
 use Rattle.language.specs.Syntax.{Block}
 use Rattle.language.specs.Answers.{Refusal, TOKENS, SYNTAX, LEVEL, Result, fine, refuse}
 use Rattle.language.specs.Words.{Word, place_word, words_of, most}

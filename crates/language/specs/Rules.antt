@@ -1,6 +1,7 @@
 -- The evaluation rules, under 000's names (section 3.3) and 004's (section 5.3), executable. They are written over any tree and read no types.
 -- The state counts what is taken; the limits are a parameter. A state that no rule fits is an outcome of its own, `no-rule`.
-use Rattle.language.specs.Library.{ℕ, zero, suc, ◌+◌, ℤ, pos, negsuc, Bool, true, false, cond, leb, ltb, List, [], ◌∷◌, ◌++◌, length, replicate, Option, none, some}
+use Rattle.std.specs.Prelude.{◌+◌, ◌∷◌, ◌++◌}
+use Rattle.language.specs.Library.{ℕ, zero, suc, ℤ, pos, negsuc, Bool, true, false, cond, leb, ltb, List, [], length, replicate, Option, none, some}
 use Rattle.language.specs.Syntax.{Name, at, Expr, num, name, if_expr, and, or, app, abs, alloc, nth_expr, len, vset, Exprs, one_expr, more_exprs, ExprP, val, adr, Cmds, last, def_then, stat_then, Def, const, fun, fun_rec, fun_block, fun_rec_block, var, proc, proc_rec, Stat, echo, set, if_stat, while, call, return, Block, block}
 use Rattle.language.specs.Bytes.{same_bytes}
 use Rattle.language.specs.Places.{place_expr, place_arg, place_def, place_stat, place_block}

@@ -1,5 +1,6 @@
 -- The tree that comes back, document 01: a tree's nodes as a forest of kinds and places, `shape`, and the words of a forest, `enc`.
-use Rattle.language.specs.Library.{ℕ, ◌+◌, ◌*◌, List, [], ◌∷◌, ◌++◌, map}
+use Rattle.std.specs.Prelude.{◌+◌, ◌*◌, ◌∷◌, ◌++◌}
+use Rattle.language.specs.Library.{ℕ, List, [], map}
 use Rattle.language.specs.Syntax.{Ident, TypeTree, bool, int, arrow, vec, TypeTrees, one_type, more_types, Arg, arg, ArgP, val_arg, var_arg, Expr, num, name, if_expr, and, or, app, abs, alloc, nth_expr, len, vset, Exprs, one_expr, more_exprs, ExprP, val, adr, Cmds, last, def_then, stat_then, Def, const, fun, fun_rec, fun_block, fun_rec_block, var, proc, proc_rec, Stat, echo, set, if_stat, while, call, return, Block, block}
 use Rattle.language.specs.Places.{place_ident}
 

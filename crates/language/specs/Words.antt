@@ -1,5 +1,6 @@
 -- From bytes to words, document 01.
-use Rattle.language.specs.Library.{ℕ, zero, suc, ◌+◌, ◌-◌, ◌*◌, String, ℤ, pos, neg_ℤ, Bool, false, cond, ◌&&◌, ◌||◌, eqb, leb, List, [], ◌∷◌, length, drop, Option, none, some}
+use Rattle.std.specs.Prelude.{◌+◌, ◌-◌, ◌*◌, ◌&&◌, ◌||◌, ◌∷◌}
+use Rattle.language.specs.Library.{ℕ, zero, suc, String, ℤ, pos, neg_ℤ, Bool, false, cond, eqb, leb, List, [], length, drop, Option, none, some}
 use Rattle.language.specs.Syntax.{Name, Ident, at}
 use Rattle.language.specs.Bytes.{bytes_of, same_bytes}
 use Rattle.language.specs.Places.{place_ident}

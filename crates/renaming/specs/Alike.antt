@@ -1,6 +1,7 @@
 -- When two trees agree but for byte places: they are made by the same lines of the grammar, with the same numbers, and with names that correspond, `N x y`.
 -- With equality for `N` they agree in all but places; with another correspondence, in all but places and names. One constructor for each line of the grammar.
-use Rattle.language.specs.Library.{ℕ, ℤ, List, [], ◌∷◌}
+use Rattle.std.specs.Prelude.{◌∷◌}
+use Rattle.language.specs.Library.{ℕ, ℤ, List, []}
 use Rattle.language.specs.Syntax.{Name, at, TypeTree, bool, int, arrow, vec, TypeTrees, one_type, more_types, Arg, arg, ArgP, val_arg, var_arg, Expr, num, name, if_expr, and, or, app, abs, alloc, nth_expr, len, vset, Exprs, one_expr, more_exprs, ExprP, val, adr, Cmds, last, def_then, stat_then, Def, const, fun, fun_rec, fun_block, fun_rec_block, var, proc, proc_rec, Stat, echo, set, if_stat, while, call, return, Block, block}
 use Rattle.language.specs.Grammar.{Sort, BLOCK, CMDS, DEF, STAT, TYPE, TYPES, ARG, ARGS, ARGP, ARGSP, EXPR, EXPRS, EXPRP, EXPRSP, TreeOf}
 

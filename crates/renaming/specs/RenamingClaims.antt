@@ -1,5 +1,6 @@
 -- Renaming changes nothing (request 9), each claim as a type with a sentence; proofs/Claims.antt proves each.
-use Rattle.language.specs.Library.{◌≡◌, ℕ, ◌≤◌, String, ℤ, pos, negsuc, List, [], ◌∷◌, length, Option, none, some}
+use Rattle.std.specs.Prelude.{◌≡◌, ◌≤◌, ◌∷◌}
+use Rattle.language.specs.Library.{ℕ, String, ℤ, pos, negsuc, List, [], length, Option, none, some}
 use Rattle.language.specs.Syntax.{Name, Block}
 use Rattle.language.specs.Bytes.{bytes_of}
 use Rattle.language.specs.Answers.{RANGE, ZERO, UNSET, SIZE, INDEX, Stop, limit, error, Answer, done, refused, stopped, fine}

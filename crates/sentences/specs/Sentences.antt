@@ -1,7 +1,7 @@
 -- A constant never changes; an address is never paid out; nothing carries over from one run to the next.
 -- Each as claims over the rules, with a sentence; proofs/Claims.antt proves each.
-use Rattle.std.specs.Prelude.{take}
-use Rattle.language.specs.Library.{◌≡◌, ℕ, suc, ℤ, Bool, true, false, List, [], ◌∷◌, Option, none, some}
+use Rattle.std.specs.Prelude.{take, ◌≡◌, ◌∷◌}
+use Rattle.language.specs.Library.{ℕ, suc, ℤ, Bool, true, false, List, [], Option, none, some}
 use Rattle.language.specs.Syntax.{Name, at, TypeTree, Expr, name, ExprP, val, adr, Def, const, Stat, echo, set, if_stat, while, call, return, Block}
 use Rattle.language.specs.Bytes.{same_bytes}
 use Rattle.language.specs.Answers.{FUEL, DEPTH, limit, fine}
