@@ -3,26 +3,74 @@ use mathlib.Core.Path.{◌≡◌, refl, sym, ap, subst, ◌∙◌}
 use mathlib.Core.Bool.{Bool, true, false, cond}
 use mathlib.Core.List.{List, [], ◌∷◌, ◌++◌, map}
 use mathlib.Core.Option.{Option, none, some}
-use Prim.Native.Nat.{ℕ, zero, suc, ◌+◌, ◌-◌, ◌*◌, ◌≤◌, ◌<◌, min}
+use Prim.Native.Nat.{ℕ, suc, ◌*◌, ◌≤◌, ◌<◌, min}
 use native.Mathlib.Omega.{arith}
-use lib.Dec.{leb, ltb}
+use lib.Dec.{leb}
 use lib.IntN.{ℤ}
-use lib.ListN.{length, take, drop}
-use borrow.Author.Tests.{leb-true, leb-false, le-leb, lt-leb, lt-ltb, le-ltb}
-use Rattle.language.specs.Answers.{LENGTH, LIMIT, TABLE, BYTE, NUMBER, TOKENS, SYNTAX, LEVEL, TYPE, DOUBLE, FUEL, DEPTH, CELLS, BINDINGS, OUTPUT, RANGE, ZERO, UNSET, SIZE, INDEX, limit, error, Answer, done, refused, stopped, number_of}
-use Rattle.language.specs.Limits.{Limits, greatest_limits}
-use Rattle.language.specs.Promises.{Lent, large_enough, tree_table, all_large, Ran, Run, too_long, too_much, too_small, not_run, ran}
+use lib.ListN.{length, take}
+use borrow.Author.Tests.{leb-true, lt-ltb, le-ltb}
+use Rattle.language.specs.Answers.{
+  LENGTH,
+  LIMIT,
+  TABLE,
+  BYTE,
+  NUMBER,
+  TOKENS,
+  SYNTAX,
+  LEVEL,
+  TYPE,
+  DOUBLE,
+  FUEL,
+  DEPTH,
+  CELLS,
+  BINDINGS,
+  OUTPUT,
+  RANGE,
+  ZERO,
+  UNSET,
+  SIZE,
+  INDEX,
+  limit,
+  error,
+  Answer,
+  done,
+  refused,
+  stopped,
+  number_of,
+}
+use Rattle.language.specs.Limits.{Limits}
+use Rattle.language.specs.Promises.{Lent, large_enough, tree_table, Ran, Run, too_much, not_run, ran}
 use Rattle.language.specs.Rules.{run}
 use Rattle.language.proofs.Running.Counts.{counts_in_limits}
 use Rattle.answers.specs.declared.Report.{Report}
 use Rattle.answers.specs.Answers.{meant}
 use Rattle.gate.specs.Lent.{limits_of, left}
 use Rattle.purse_model.specs.Journal.{purse_count, Purses, purse, charge, Entry, entry, record_bytes, bytes_of, Back, back, read_back}
-use Rattle.purse_model.specs.Purses.{Work, runs, Outcome, fuel_given, given, charged, of_run, record_left, Comes, wrong_journal, wrong_purse, no_record, run_made, World, world, Step, hand, after, stores_from, writing, steps}
+use Rattle.purse_model.specs.Purses.{
+  Work,
+  runs,
+  Outcome,
+  fuel_given,
+  given,
+  charged,
+  record_left,
+  Comes,
+  wrong_journal,
+  wrong_purse,
+  no_record,
+  run_made,
+  World,
+  world,
+  Step,
+  hand,
+  after,
+  writing,
+  steps,
+}
 use Rattle.purse_model.proofs.Outcomes.{given_less, given_more, differ}
 use Rattle.purses.specs.Meant.{Stepped}
 use Rattle.purses.proofs.Calls.{after_nil}
-use Rattle.purse_run.specs.Meant.{refused_answer, Banked, StepsMade, Charges, run_outcome, run_steps, RunReady, AsLent, Kept, RunBegins, PurseRun}
+use Rattle.purse_run.specs.Meant.{refused_answer, StepsMade, Charges, run_outcome, run_steps, RunReady, AsLent, Kept, RunBegins, PurseRun}
 use Rattle.purse_run.specs.declared.PurseAnswer.{PurseAnswer}
 use Rattle.purse_run.specs.declared.PurseAnswer.TheVariants as answer
 use Rattle.purse_run.specs.declared.RunBegun.{RunBegun}

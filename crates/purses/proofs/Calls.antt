@@ -2,7 +2,7 @@
 use mathlib.Core.Path.{◌≡◌, refl, sym, ap, subst, ◌∙◌}
 use mathlib.Core.Bool.{Bool, true, false, cond}
 use mathlib.Core.List.{List, [], ◌∷◌, ◌++◌, map, append_assoc, append-nil}
-use mathlib.Core.Option.{Option, none, some}
+use mathlib.Core.Option.{none, some}
 use Prim.Native.Nat.{ℕ, zero, suc, ◌+◌, ◌-◌, ◌*◌, ◌/◌, ◌≤◌, ◌<◌, min}
 use native.Mathlib.Nat.{not-suc-le-zero, le_of_suc-le-suc}
 use native.Mathlib.Omega.{arith}
@@ -11,9 +11,9 @@ use lib.Dec.{leb, ltb}
 use lib.IntN.{ℤ, pos}
 use lib.ListN.{length, get_or, set, take, drop, length-set}
 use lib.Seq.{length-take-le}
-use borrow.Author.Tests.{leb-true, leb-false, le-leb, lt-leb, ltb-true, ltb-false, lt-ltb, le-ltb}
-use Rattle.purse_model.specs.Journal.{purse_count, top, Purses, purse, credit, entry, changed, moved, record_bytes, bytes_of, Back, back, read_back}
-use Rattle.purse_model.specs.Purses.{credits, is_some, purse_admits, record_left, Comes, wrong_journal, wrong_purse, no_record, credit_made, World, world, Step, store, hand, made, after, stores_from, steps}
+use borrow.Author.Tests.{leb-true, le-leb, lt-leb, ltb-true, ltb-false, lt-ltb, le-ltb}
+use Rattle.purse_model.specs.Journal.{purse_count, top, Purses, purse, credit, entry, changed, record_bytes, bytes_of, Back, back, read_back}
+use Rattle.purse_model.specs.Purses.{credits, is_some, purse_admits, record_left, Comes, wrong_journal, wrong_purse, no_record, credit_made, World, world, Step, store, hand, made, after, stores_from}
 use Rattle.purses.specs.Meant.{onto, Stepped, credit_outcome, steps_at, CreditReady, CreditBegins, CreditComes}
 use Rattle.purses.specs.declared.CreditAnswer.{CreditAnswer}
 use Rattle.purses.specs.declared.CreditAnswer.TheVariants as answer

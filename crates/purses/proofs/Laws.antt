@@ -1,17 +1,38 @@
 -- What the functions' proofs use: entries made or not, the first record of some bytes, one store after the other.
 use mathlib.Core.Path.{◌≡◌, refl, sym, ap, subst, ◌∙◌}
 use mathlib.Core.Bool.{Bool, true, false, cond}
-use mathlib.Core.List.{List, [], ◌∷◌, ◌++◌}
+use mathlib.Core.List.{List, [], ◌∷◌}
 use mathlib.Core.Option.{Option, none, some}
 use Prim.Native.Nat.{ℕ, zero, suc, ◌+◌, ◌-◌, ◌*◌, ◌/◌, ◌%◌, ◌≤◌, ◌<◌, min}
 use native.Mathlib.Nat.{not-suc-le-zero, le_of_suc-le-suc}
 use native.Mathlib.Omega.{arith}
 use native.Mathlib.Numerals.{add-one}
-use lib.Dec.{eqb, leb, ltb}
+use lib.Dec.{eqb, leb}
 use lib.ListN.{length, get_or, set, take, drop, replicate, length-set, length-drop}
 use lib.Seq.{take_all, drop-drop}
 use borrow.Author.Tests.{leb-true, leb-false, le-leb, lt-leb, lt-ltb, le-ltb, eq-eqb, ne_eqb}
-use Rattle.purse_model.specs.Journal.{purse_count, top, Purses, empty, purse, Kind, credit, charge, Entry, entry, changed, moved, mark, record_bytes, kind_of, entry_of, entry_in, moved_by, bytes_of, Back, back, read_record, read_on, read_back}
+use Rattle.purse_model.specs.Journal.{
+  purse_count,
+  top,
+  Purses,
+  empty,
+  purse,
+  Kind,
+  credit,
+  charge,
+  entry,
+  changed,
+  mark,
+  record_bytes,
+  kind_of,
+  entry_of,
+  entry_in,
+  moved_by,
+  back,
+  read_record,
+  read_on,
+  read_back,
+}
 use Rattle.purse_model.specs.Purses.{World, world, Step, store, made, after, stores_from}
 use Rattle.purse_model.proofs.Standing.{read_few}
 use Rattle.limits.specs.Cleared.{zeroed}

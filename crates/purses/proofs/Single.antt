@@ -9,8 +9,8 @@ use native.Mathlib.Omega.{arith}
 use lib.Dec.{leb, ltb}
 use lib.IntN.{ℤ, pos}
 use lib.ListN.{length, get_or, set, take}
-use borrow.Author.Tests.{leb-true, leb-false, le-leb, lt-leb, ltb-true, ltb-false, lt-ltb, le-ltb, ne_eqb}
-use Rattle.purse_model.specs.Journal.{purse_count, Kind, credit, charge, Entry, entry, record_bytes, bytes_of, kind_of, entry_of}
+use borrow.Author.Tests.{leb-true, le-leb, lt-leb, ltb-true, ltb-false, lt-ltb, le-ltb, ne_eqb}
+use Rattle.purse_model.specs.Journal.{purse_count, Kind, Entry, entry, record_bytes, bytes_of, kind_of, entry_of}
 use Rattle.purse_model.specs.Purses.{record_left, World, world, Step, store, hand, after, stores_from}
 use Rattle.purses.specs.Meant.{onto, Stepped, nth, entry_steps, pending_steps, lent_for, pending_step, Makes}
 use Rattle.purses.proofs.Laws.{differ, after_next, after_all, length_stores}
