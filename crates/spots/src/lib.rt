@@ -26,6 +26,7 @@ struct Begun {
     start: usize,
 }
 
+#[tactic(auto, using(crate::proofs::Lines::ends_le, crate::proofs::Lines::ends_more, crate::proofs::Lines::ends_same, crate::proofs::Lines::starts_here, crate::proofs::Lines::starts_before))]
 fn line_begin(text: &[u8], place: usize) -> Begun
     requires { place ≤ length text.now }
     ensures { (result.ended ≡ ends_before text.now place) × (result.start ≡ start_of text.now place) }
