@@ -1,6 +1,6 @@
 /* Mahrullis: CHECK, RUN and NAME of APS scripts, and runs that are paid from purses, over tables that the caller lends.
  *
- * Link crates/mahrullis/out/libmahrullis.a (`rt lib` in crates/mahrullis; x86-64 Linux). The archive's code is proved; this header and its inline functions are not.
+ * Link target/staticlib/libmahrullis.a (`tools/archive`; x86-64 Linux). The archive's code is proved; this header and its inline functions are not.
  * The least that works: a `static struct mahrullis_tables`, and mahrullis_run_text or mahrullis_check_text over it.
  *
  * What is believed of the caller, and all of it:

@@ -21,7 +21,7 @@ fn main() {
     println!("cargo:rerun-if-changed={}", archive.display());
     if !archive.is_file() {
         refuse(&format!(
-            "there is no {}: run `rt staticlib mahrullis` in the repository first, or set MAHRULLIS_LIB_DIR to the folder that has libmahrullis.a",
+            "there is no {}: run `tools/archive` in the repository first, or set MAHRULLIS_LIB_DIR to the folder that has libmahrullis.a",
             archive.display()
         ));
     }
