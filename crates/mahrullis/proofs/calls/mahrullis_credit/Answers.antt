@@ -11,4 +11,6 @@ pub credit-answer-requires : goal.credit-answer-requires
 credit-answer-requires c = first_purses c.args.purses.now c.if-purses-lt-PURSE_ENTRIES.false
 
 pub returns : goal.returns
-returns c = credit_into c.args.journal.now c.args.p c.args.amount c.args.purses.now _ _ _ c.if-purses-lt-PURSE_ENTRIES.false refl c.args.n c.credit-answer.result _ c.credit-answer.ensures c.number_of_credit.ensures
+returns c =
+    credit_into c.args.journal.now c.args.p c.args.amount c.args.purses.now _ _ _ c.if-purses-lt-PURSE_ENTRIES.false refl c.args.n c.credit-answer.result _ c.credit-answer.ensures
+    c.number_of_credit.ensures
