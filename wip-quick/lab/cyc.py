@@ -2,7 +2,7 @@
 # cyc.py CRATE ANSWERS RANKS [--dummy]: the proof of the crate's one cycle, from target/goals (rt dev CRATE --generated target/goals/CRATE) and answers
 import sys, re, os, glob, importlib.machinery
 crate, answers, ranks = sys.argv[1:4]
-os.chdir('/work/w/N')
+os.chdir('.')
 prove = importlib.machinery.SourceFileLoader('prove','tools/prove').load_module()
 rank={}
 for l in open(ranks):

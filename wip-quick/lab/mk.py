@@ -89,5 +89,5 @@ if len(sys.argv) > 4 and 'final' in sys.argv[4]:
     import re
     g = re.sub(r'\bm\[(\d+)\]', lambda k: 'm[%d]' % (int(k.group(1))+8200), g)
     open(d + '/crates/gate/src/lib.rt', 'w').write(g)
-r = subprocess.run(['/work/shared/bench/lower', d, name + '.so'], capture_output=True, text=True)
+r = subprocess.run(['../shared/bench/lower', d, name + '.so'], capture_output=True, text=True)
 print(r.stdout[-3000:], r.stderr[-2000:])

@@ -103,4 +103,4 @@ b('vset',HEAD.strip(),'use Rattle·eval_tree·proofs.proofs.Calls.{vset-passes, 
  'returns-4: vset-goes %s _ _ %s _ (@place-at .ensures) _ (@set-element .ensures _ _)'%(S3,V3))
 import sys
 extra=open(sys.argv[1]).read() if len(sys.argv)>1 else ''
-open('/work/w/lab-N/ans/tree2','w').write('\n'.join(out)+'\n'+extra)
+open('lab/ans/tree2','w').write('\n'.join(out)+'\n'+extra)

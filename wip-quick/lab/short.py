@@ -26,4 +26,4 @@ for f in ('coding','gate'):
         i += 1;
     }''',s)
     open(p,'w').write(s)
-r=subprocess.run(['/work/shared/bench/lower',d,'final-short.so'],capture_output=True,text=True); print(r.stdout[-1500:],r.stderr[-500:])
+r=subprocess.run(['../shared/bench/lower',d,'final-short.so'],capture_output=True,text=True); print(r.stdout[-1500:],r.stderr[-500:])
