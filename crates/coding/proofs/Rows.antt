@@ -1,4 +1,4 @@
--- The loop over a row is `rowCodes`: a node, the nodes below it, then the rest of the row.
+-- The loop over a row is `row_codes`: a node, the nodes below it, then the rest of the row.
 use mathlib.Core.Path.{◌≡◌, refl, sym, ap, ◌∙◌, subst}
 use mathlib.Core.Bool.{Bool, true, false}
 use mathlib.Core.List.{List, [], ◌∷◌, ◌++◌}

@@ -14,7 +14,7 @@ use Rattle.language.specs.Types.{Ty, base, fn, vec_of, Tys, tnil, tcons, Ctx, Fl
 use Rattle.language.specs.Typing.{HasE, HasB, HasS, Typable}
 use Rattle.language.specs.Order.{JudgedNode, expr_node, adr_node, vec_node, param_node, single_node, def_node, stat_node, followed_node, block_node, prog_node, nodes_prog, TypeRefused}
 use Rattle.language.specs.Limits.{Limits, greatest_limits, ◌⊑◌, Admitted}
-use Rattle.language.specs.Rules.{Val, in_a, in_b, Env, bound, State, stop, no_rule, Outcome, ok, halt, bind, need, unless_returned, branch, enter, look, nth, fresh, as_truth, Level, In_block, alloc_rule, expr_rule, arg_rule, def_rule, stat_rule, level, run}
+use Rattle.language.specs.Rules.{Val, in_a, in_b, Env, bound, State, stop, no_rule, Outcome, ok, halt, bind, need, unless_returned, branch, enter, look, nth, fresh, as_truth, Level, in_block, alloc_rule, expr_rule, arg_rule, def_rule, stat_rule, level, run}
 use Rattle.language.specs.Outcome.{state_of, end_of}
 use Rattle.language.specs.Promises.{Verdict, text_bytes, tree_words, Lent, tree_table, large_enough, Checked, Check, Ran, all_large, Run}
 use Rattle.language.specs.Desk.{AllHold, desk}
@@ -193,7 +193,7 @@ abbrev pub WhileRule : Type 0
 WhileRule = (L : Limits) (d p : ℕ) (e : Expr) (b : Block) (ρ : Env) (s : State) →
     (level L (suc d)).stat (while p e b) ρ s ≡
     enter L p s (λ s₁. bind ((level L d).expr e ρ s₁) λ v s₂. need (as_truth v) p s₂ λ t.
-    branch t (unless_returned (In_block (level L d) b ρ s₂) λ s₃. (level L (suc d)).stat (while p e b) ρ s₃) (ok Option.none s₂))
+    branch t (unless_returned (in_block (level L d) b ρ s₂) λ s₃. (level L (suc d)).stat (while p e b) ρ s₃) (ok Option.none s₂))
 
 -- div rounds down: the dividend is quotient times divisor plus a rest, which is 0 or has the divisor's sign, and whose size is below the divisor's.
 abbrev pub RoundsDown : Type 0
@@ -252,7 +252,7 @@ NothingGivenBack = (L L' : Limits) (d d' : ℕ) → L ⊑ L' → d ≤ d' → (�
     ((a : ExprP) → AllStays ((level L d).arg a ρ) ((level L' d').arg a ρ)) ×
     ((x : Def) → AllStays ((level L d).def x ρ) ((level L' d').def x ρ)) ×
     ((c : Stat) → AllStays ((level L d).stat c ρ) ((level L' d').stat c ρ)) ×
-    ((b : Block) → AllStays (In_block (level L d) b ρ) (In_block (level L' d') b ρ))
+    ((b : Block) → AllStays (in_block (level L d) b ρ) (in_block (level L' d') b ρ))
 
 -- Nothing carries over from an earlier call to CHECK: on tables that are large enough, however long and whatever they hold, one text has one answer and one tree
 -- (a text over the length is refused with nothing changed).

@@ -1,5 +1,5 @@
 -- The evaluation rules, under 000's names (section 3.3) and 004's (section 5.3), executable. They are written over any tree and read no types.
--- The state counts what is taken; the limits are a parameter. A state that no rule fits is an outcome of its own, `no-rule`.
+-- The state counts what is taken; the limits are a parameter. A state that no rule fits is an outcome of its own, `no_rule`.
 use Rattle.std.specs.Prelude.{◌+◌, ◌∷◌, ◌++◌}
 use Rattle.language.specs.Library.{ℕ, zero, suc, ℤ, pos, negsuc, Bool, true, false, cond, leb, ltb, List, [], length, replicate, Option, none, some}
 use Rattle.language.specs.Syntax.{Name, at, Expr, num, name, if_expr, and, or, app, abs, alloc, nth_expr, len, vset, Exprs, one_expr, more_exprs, ExprP, val, adr, Cmds, last, def_then, stat_then, Def, const, fun, fun_rec, fun_block, fun_rec_block, var, proc, proc_rec, Stat, echo, set, if_stat, while, call, return, Block, block}
@@ -228,12 +228,12 @@ cmds r (def_then d cs) ρ s = bind (r.def d ρ s) λ ρ₁ s₁. cmds r cs ρ₁
 cmds r (stat_then c cs) ρ s = unless_returned (r.stat c ρ s) λ s₁. cmds r cs ρ s₁
 cmds r (last c) ρ s = r.stat c ρ s
 
-abbrev pub In_block : Level → Block → Env → State → Outcome Returned  -- (BLOCK)
-In_block r (block p cs) ρ s = cmds r cs ρ s
+abbrev pub in_block : Level → Block → Env → State → Outcome Returned  -- (BLOCK)
+in_block r (block p cs) ρ s = cmds r cs ρ s
 
 abbrev pub in_body : Level → Body → Env → ℕ → State → Outcome Val  -- a body's value is what its expression has, or what its block returns
 in_body r (an_expr e) ρ p s = r.expr e ρ s
-in_body r (a_block b) ρ p s = bind (In_block r b ρ s) λ o s₁. need o p s₁ λ v. ok v s₁
+in_body r (a_block b) ρ p s = bind (in_block r b ρ s) λ o s₁. need o p s₁ λ v. ok v s₁
 
 abbrev pub read : Val → ℕ → State → Outcome Val  -- (ID1) an address is read through, (ID2) any other value is the name's
 read (in_z n) p s = ok (in_z n) s
@@ -318,11 +318,11 @@ stat_rule L r (echo p e) ρ s =
 stat_rule L r (set p (at q x) e) ρ s =
     need (look ρ x) p s λ w. need (as_address w) p s λ a. bind (r.expr e ρ s) λ v s₁. need (store s₁.cells a v) p s₁ λ c. ok none (with_cells c s₁)
 -- (IF1), (IF0)
-stat_rule L r (if_stat p e a b) ρ s = bind (r.expr e ρ s) λ v s₁. need (as_truth v) p s₁ λ t. branch t (In_block r a ρ s₁) (In_block r b ρ s₁)
-stat_rule L r (while p e b) ρ s = rounds L (suc L.fuel) (r.expr e ρ) (In_block r b ρ) p s  -- (LOOP0), (LOOP1A), (LOOP1B)
+stat_rule L r (if_stat p e a b) ρ s = bind (r.expr e ρ s) λ v s₁. need (as_truth v) p s₁ λ t. branch t (in_block r a ρ s₁) (in_block r b ρ s₁)
+stat_rule L r (while p e b) ρ s = rounds L (suc L.fuel) (r.expr e ρ) (in_block r b ρ) p s  -- (LOOP0), (LOOP1A), (LOOP1B)
 -- (CALL), (CALLR): arguments, bindings, block
 stat_rule L r (call p (at q x) as') ρ s =
-    need (look ρ x) p s λ w. bind (args r as' ρ s) λ vs s₁. need (open_procedure w vs) p s₁ λ c. make L c.count p s₁ λ s₂. In_block r c.body c.env s₂
+    need (look ρ x) p s λ w. bind (args r as' ρ s) λ vs s₁. need (open_procedure w vs) p s₁ λ c. make L c.count p s₁ λ s₂. in_block r c.body c.env s₂
 -- (RET)
 stat_rule L r (return p e) ρ s = bind (r.expr e ρ s) λ v s₁. ok (some v) s₁
 
@@ -356,4 +356,4 @@ ended none p s = ok tt s
 ended (some v) p s = halt no_rule p s
 
 abbrev pub run : Limits → Block → Outcome (Unit {0})  -- (PROG) a program is its block, run from no bindings, no cells and no numbers
-run L b = bind (In_block (level L L.depth) b empty start) λ o s. ended o (place_block b) s
+run L b = bind (in_block (level L L.depth) b empty start) λ o s. ended o (place_block b) s

@@ -182,15 +182,15 @@ module _ (g : Stage) where
       (below_or_not (first_free + total (tail (blocks (scope ρ)))) y)
   by_more b r y f c ρ e n m (single d) h a o k = absurd (omega (arith, a, o, code_blocks (scope ρ)))
 
-  In_block : (b : List ℕ) (r y : ℕ) → InBlock b r y
+  in_block : (b : List ℕ) (r y : ℕ) → InBlock b r y
   unfolding blocks total full code_over
-  In_block b zero y c ρ e n m h a o k =
+  in_block b zero y c ρ e n m h a o k =
       let d = full_up (head (blocks (scope ρ))) 0 h in let t = total_is (blocks (scope ρ)) in absurd (omega (arith, d, t, code_blocks (scope ρ), a, o))
-  In_block b (suc r) y c empty e n m h a o k = absurd (omega (arith, a, o))
-  In_block b (suc r) y c (bound z u ρ) e zero m h a o k = absurd (omega (arith, k))
-  In_block b (suc r) y c (bound z u ρ) e (suc n) (e_bound {ρ' = ρ'} l q v m p w j) h a o k =
+  in_block b (suc r) y c empty e n m h a o k = absurd (omega (arith, a, o))
+  in_block b (suc r) y c (bound z u ρ) e zero m h a o k = absurd (omega (arith, k))
+  in_block b (suc r) y c (bound z u ρ) e (suc n) (e_bound {ρ' = ρ'} l q v m p w j) h a o k =
       let t : code_over (scope ρ') ≡ first_free + total (tail (more (blocks (scope ρ)))) = code_blocks (scope ρ') ∙ ap (λ (x : List ℕ). first_free + total x) w in
-      go_on z l q v p j y n (λ d _. by_more b r y (In_block b r y) _ ρ _ n m (more_is (blocks (scope ρ))) h a (omega (arith, d, o)) (omega (arith, k)))
+      go_on z l q v p j y n (λ d _. by_more b r y (in_block b r y) _ ρ _ n m (more_is (blocks (scope ρ))) h a (omega (arith, d, o)) (omega (arith, k)))
       (λ d. absurd (omega (arith, d, t, a)))
 
   -- from block to block, whose ranks rise from r on
@@ -205,7 +205,7 @@ module _ (g : Stage) where
   past_first b y n f c empty e s r l e_none w a u o k = lost
   past_first b y n f c (bound z v ρ) e s r l (e_bound {k = i'} {ρ' = ρ'} h i x m p q j) w a u o k =
       let t : code_over (scope ρ') ≡ first_free + total l = code_blocks (scope ρ') ∙ ap (λ (x : List ℕ). first_free + total x) (q ∙ ap tail w) in
-      ⊎_elim (λ d. In_block b s y _ (bound z v ρ) _ (suc n) (e_bound h i x m p q j) (rw w (le_refl s)) (rw w d) o a)
+      ⊎_elim (λ d. in_block b s y _ (bound z v ρ) _ (suc n) (e_bound h i x m p q j) (rw w (le_refl s)) (rw w d) o a)
       (λ d. go_on z h i x p j y n (λ _ d'. absurd (omega (arith, d, d', t))) λ d'. f _ ρ' _ r j (rw (q, w) u) d' k)
       (below_or_not (first_free + total l) y)
 

@@ -339,8 +339,8 @@ module _ (g : Script) (codes : List ℕ) where
   in_stat_then : {i : ℕ} {c : Stat} {cs : Cmds} → AtCs g i (stat_then c cs) → AtS g i c × AtCs g (next g i) cs
   in_stat_then (at_stat_then a b) = (a, b)
 
-  In_block : {i p : ℕ} {cs : Cmds} → AtB g i (block p cs) → (kind g i ≡ 1) × AtCs g (child g i) cs
-  In_block (at_block k a) = (k, a)
+  in_block : {i p : ℕ} {cs : Cmds} → AtB g i (block p cs) → (kind g i ≡ 1) × AtCs g (child g i) cs
+  in_block (at_block k a) = (k, a)
 
   -- behind a command
   past_stat : {i : ℕ} {c : Stat} {Γ : List Name} (s : Forest) → AtS g i c → Scoped Γ none i (shape_stat c s) → Scoped Γ none (next g i) s
@@ -444,7 +444,7 @@ module _ (g : Script) (codes : List ℕ) where
     stat_blocks (return p e) = tt
 
     coded_block : (b : Block) → OnBlocks b
-    coded_block (block p cs) i Γ s t h = let v = In_block t in coded_cmds cs v.1 (kids_of i 1 v.0 (fork_of h).1)
+    coded_block (block p cs) i Γ s t h = let v = in_block t in coded_cmds cs v.1 (kids_of i 1 v.0 (fork_of h).1)
 
   -- ---- the program
 

@@ -10,7 +10,7 @@ use lib.ListN.{length}
 use Rattle.language.specs.Syntax.{Name, at, Expr, TypeTree, ExprP, Def, const, var, Stat, echo, if_stat, call, return, Block}
 use Rattle.language.specs.Syntax as Syntax
 use Rattle.language.specs.Places.{place_def, place_stat}
-use Rattle.language.specs.Rules.{Val, Env, bound, State, Returned, Outcome, ok, make, Level, In_block, open_procedure, def_rule, stat_rule}
+use Rattle.language.specs.Rules.{Val, Env, bound, State, Returned, Outcome, ok, make, Level, in_block, open_procedure, def_rule, stat_rule}
 use Rattle.language.specs.Rules as Rules
 use Rattle.nodes.specs.Trees.{kind, place, child, next, AtD, at_const, at_fun, at_fun_rec, at_fun_block, at_fun_rec_block, at_var, at_proc, at_proc_rec, AtS, at_echo, at_set, at_if_stat, at_while, at_call, at_return}
 use Rattle.machine.specs.Entries.{pick, done_tag}
@@ -94,7 +94,7 @@ module _ {g : Stage} where
         goes {a = none} refl (r_store r₁ c t y u cs w v.it) (record { more = le_refl _; old = λ k h. refl; waits = λ k s h. refl; fell = le_refl _ })
 
     block_sim : {i : ℕ} {b : Block} {ρ : Env} (env : ℕ) {within sp : ℕ} {s : State} {m : Tables} → InB g (scope ρ) i b → Here g ρ within s m →
-        Sims g (IsDone env) (IsBack g) sp m (In_block l b ρ s) (block_c (run_of g) S env within (slot sp) i m)
+        Sims g (IsDone env) (IsBack g) sp m (in_block l b ρ s) (block_c (run_of g) S env within (slot sp) i m)
     unfolding block_c
     block_sim env a x = sim_end (on_block h a x) λ u s₁ t y m₁ v r₁ gr. done_sim env u t y v r₁
 
@@ -113,7 +113,7 @@ module _ {g : Stage} where
     call_stat_sim i {env = env} {sp = sp} z a x =
         sim_look _ _ z x.names' x.st λ u t y v.
         sim_call (all_args_lem h sp a x) λ us s₁ k n m₁ w r₁ gr.
-        sim_open (open_procedure u us) _ s₁ (λ c s₂. In_block l c.body c.env s₂) (procedure_sim _ k n (keep v gr.more gr.old) w r₁)
+        sim_open (open_procedure u us) _ s₁ (λ c s₂. in_block l c.body c.env s₂) (procedure_sim _ k n (keep v gr.more gr.old) w r₁)
         λ c s₂ env₁ j m₂ b r₂ gr₂.
         making (length us) b.made (block_sim env b.it.body_in (record { names' = b.it.in_env; st = r₂ }))
 
@@ -123,7 +123,7 @@ module _ {g : Stage} where
     rounds_sim : (i n k : ℕ) {e : Expr} {b : Block} {ρ : Env} {env sp : ℕ} {s : State} {m : Tables} → InE g (scope ρ) (child g.script i) e →
         InB g (scope ρ) (next g.script (child g.script i)) b → Here g ρ env s m → m.counts.units < n → m.counts.units < k →
         Sims g (Spent g m (IsDone env)) (IsBack g) sp m
-        (Rules.enter g.limits (place g.script i) s λ s₁. Rules.rounds g.limits n (l.expr e ρ) (In_block l b ρ) (place g.script i) s₁)
+        (Rules.enter g.limits (place g.script i) s λ s₁. Rules.rounds g.limits n (l.expr e ρ) (in_block l b ρ) (place g.script i) s₁)
         (rounds (run_of g) k (suc d) S env (slot sp) (node g i) m)
     rounds_sim i zero k a b x c c' = absurd (not-suc-le-zero c)
     rounds_sim i (suc n) zero a b x c c' = absurd (not-suc-le-zero c')

@@ -12,7 +12,7 @@ use mir.Syntax.{w64}
 use mir.Val.{of_z}
 use Rattle.language.specs.Syntax.{Expr, if_expr, and, or, alloc, nth_expr, len, vset, Exprs, ExprP, Block, TypeTree}
 use Rattle.language.specs.Names.{Op, operator, head_operator}
-use Rattle.language.specs.Rules.{Val, in_z, Env, State, Outcome, ok, bind, Level, exprs, args, Body, an_expr, a_block, In_block, in_body, need, apply_rule, expr_rule, arg_rule, open_function, Returned}
+use Rattle.language.specs.Rules.{Val, in_z, Env, State, Outcome, ok, bind, Level, exprs, args, Body, an_expr, a_block, in_block, in_body, need, apply_rule, expr_rule, arg_rule, open_function, Returned}
 use Rattle.nodes.specs.Names.{meaning_no}
 use Rattle.nodes.specs.Written.{Numeral, number_at}
 use Rattle.nodes.specs.Trees.{Script, kind, place, child, next, AtE, at_num, at_name, at_if, at_and, at_or, at_app, at_abs, at_alloc, at_nth, at_len, at_vset, AtEs, at_one_expr, at_more_exprs, AtA, at_val, at_adr, AtAs, at_no_arg, at_more_args, AtB, at_block}
@@ -193,11 +193,11 @@ module _ {g : Stage} where
         bind_ok _ _ _ ∙ (bind_ok _ _ _ ∙ more_stuck f u u₂ us _ s₃ w.some)))))))
 
     within_block : {i : ℕ} {b : Block} {ρ : Env} {env sp : ℕ} {s : State} {m : Tables} → AtB g.script i b → CodedB g.script g.codes (scope ρ) i b → Here g ρ env s m →
-        Sims g Ran (IsBack g) sp m (In_block l b ρ s) (S.block env (slot sp) (child g.script i) m)
+        Sims g Ran (IsBack g) sp m (in_block l b ρ s) (S.block env (slot sp) (child g.script i) m)
     within_block (at_block k a) q x = h.on_c (record { at = a; coded = q }) x
 
     pub on_block : {i : ℕ} {b : Block} {ρ : Env} {env sp : ℕ} {s : State} {m : Tables} → InB g (scope ρ) i b → Here g ρ env s m →
-        Sims g Ran (IsBack g) sp m (In_block l b ρ s) (S.block env (slot sp) (child g.script i) m)
+        Sims g Ran (IsBack g) sp m (in_block l b ρ s) (S.block env (slot sp) (child g.script i) m)
     on_block a x = within_block a.at a.coded x
 
     -- what a body comes to

@@ -18,12 +18,12 @@ use Rattle.machine.specs.Leaves.{is_param}
 
 -- ---- names in force, the latest first
 
--- the code of the latest of them: how many there are, counted from `first-free` on
+-- the code of the latest of them: how many there are, counted from `first_free` on
 unfoldable pub code_over : List Name → ℕ
 code_over [] = first_free
 code_over (x ∷ Γ) = suc (code_over Γ)
 
--- the code of the latest that is x; `first-free` where none is
+-- the code of the latest that is x; `first_free` where none is
 unfoldable pub level_among : List Name → Name → ℕ
 level_among [] x = first_free
 level_among (y ∷ Γ) x = cond (same_bytes y x) (suc (code_over Γ)) (level_among Γ x)

@@ -15,7 +15,7 @@ use Rattle.machine.specs.State.{Run, Tables, Ret, is, and_then, if_value, bind, 
 
 -- ---- names
 
--- the code of the latest binding of env: how many are in force there, counted from `first-free` on
+-- the code of the latest binding of env: how many are in force there, counted from `first_free` on
 unfoldable pub code_in : (bindings : List ℕ) (env : ℕ) → ℕ
 code_in b env = pick (eqb env 0) (λ _. first_free) λ _. (binding_at b (env - 1)).code
 

@@ -158,7 +158,7 @@ module _ (g : Run) where
       and_then (open_procedure_at g n.place k sp t x m₁) λ env₁ i m₂.
       block_c S env env₁ sp i m₂
 
-  -- one round of the WHILE n, which is entered; `again-tag` asks for one more
+  -- one round of the WHILE n, which is entered; `again_tag` asks for one more
   unfoldable pub round : ℕ → Evaluators → (env sp : ℕ) → Node → Tables → Ret
   round d S env sp n m =
       guard d n.place m λ m₀.

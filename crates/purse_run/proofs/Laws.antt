@@ -137,7 +137,7 @@ some_charged p u (stopped w q) e = refl
 
 -- ---- a charge's steps
 
-abbrev steps_at : ℕ → Option Entry → ℕ → List ℤ → List Step  -- `report-steps`, of any entry
+abbrev steps_at : ℕ → Option Entry → ℕ → List ℤ → List Step  -- `report_steps`, of any entry
 steps_at place x k held = writing place x ++ map hand (take k held)
 
 module _ (n place p : ℕ) (r : Report) (held : List ℤ) (J : List ℕ) (bank : List ℤ) where

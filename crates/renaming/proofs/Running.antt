@@ -17,7 +17,7 @@ use Rattle.language.specs.Numbers.{Computed, amount, fails, as_bit}
 use Rattle.language.specs.Grammar.{BLOCK, CMDS, DEF, STAT, ARGS, ARGSP, EXPR, EXPRS, EXPRP, EXPRSP}
 use Rattle.language.specs.Types.{values, param_names}
 use Rattle.language.specs.Limits.{Limits}
-use Rattle.language.specs.Rules.{Val, in_z, in_f, in_fr, in_p, in_pr, in_a, in_b, Env, empty, bound, Cell, State, Returned, Why, stop, no_rule, Outcome, ok, halt, bind, need, otherwise, unless_returned, within, branch, take_unit, take_bindings, with_cells, put_out, enter, make, lookup_env, look, bind_all, nth, behind, fresh, store, as_number, if_number, as_truth, as_address, as_block, as_size, cell_in, as_numbers, operate, Entered, entering, also, Body, an_expr, open_function, open_procedure, give, give_cell, Level, exprs, args, cmds, In_block, in_body, read, name_rule, apply_rule, alloc_rule, element_rule, expr_rule, arg_rule, def_rule, rounds, stat_rule, step, level, ended, run}
+use Rattle.language.specs.Rules.{Val, in_z, in_f, in_fr, in_p, in_pr, in_a, in_b, Env, empty, bound, Cell, State, Returned, Why, stop, no_rule, Outcome, ok, halt, bind, need, otherwise, unless_returned, within, branch, take_unit, take_bindings, with_cells, put_out, enter, make, lookup_env, look, bind_all, nth, behind, fresh, store, as_number, if_number, as_truth, as_address, as_block, as_size, cell_in, as_numbers, operate, Entered, entering, also, Body, an_expr, open_function, open_procedure, give, give_cell, Level, exprs, args, cmds, in_block, in_body, read, name_rule, apply_rule, alloc_rule, element_rule, expr_rule, arg_rule, def_rule, rounds, stat_rule, step, level, ended, run}
 use Rattle.language.specs.Outcome.{Report, report}
 use Rattle.renaming.specs.Alike.{Alike, a_block, a_last, a_def_then, a_stat_then, a_const, a_fun, a_fun_rec, a_fun_block, a_fun_rec_block, a_var, a_proc, a_proc_rec, a_args, a_no_args, a_arg, a_val_arg, a_var_arg, a_no_argsp, a_argsp, a_echo, a_set, a_if_stat, a_while, a_call, a_return, a_val, a_adr, a_no_exprsp, a_exprsp, a_num, a_name, a_if_expr, a_and, a_or, a_app, a_abs, a_alloc, a_nth, a_len, a_vset, a_one_expr, a_more_exprs}
 use Rattle.renaming.specs.RenamingClaims.{unmade, unplaced_report}
@@ -353,7 +353,7 @@ module _ {N : Name → Name → Type 0} (O : Corresponds N) (L : Limits) where
     same_cmds (Cmds.stat_then d c) (a_stat_then a b) m i = same_then (h.stat_in a m i) λ s₁ t₁ i₁. same_cmds c b m i₁
     same_cmds (Cmds.last d) (a_last a) m i = h.stat_in a m i
 
-    same_block : {b c : Block} {ρ π : Env} {s t : State} → Alike N BLOCK b c → SameEnv N ρ π → SameState N s t → SameOutcome N (Both N) (In_block r b ρ s) (In_block r c π t)
+    same_block : {b c : Block} {ρ π : Env} {s t : State} → Alike N BLOCK b c → SameEnv N ρ π → SameState N s t → SameOutcome N (Both N) (in_block r b ρ s) (in_block r c π t)
     same_block (a_block a) m i = same_cmds _ a m i
 
     same_in_body : {b c : Body} {ρ π : Env} (p q : ℕ) {s t : State} → SameBody N b c → SameEnv N ρ π → SameState N s t →
@@ -451,9 +451,9 @@ module _ {N : Name → Name → Type 0} (O : Corresponds N) (L : Limits) where
         entered c d k s₁ t₁ i₁
       where
         entered : (c d : Entered Block) → SameEntered N (Alike N BLOCK) c d → (s t : State) → SameState N s t →
-            SameOutcome N (Both N) (make L c.count p s λ s₃. In_block r c.body c.env s₃) (make L d.count q t λ s₃. In_block r d.body d.env s₃)
+            SameOutcome N (Both N) (make L c.count p s λ s₃. in_block r c.body c.env s₃) (make L d.count q t λ s₃. in_block r d.body d.env s₃)
         entered c d k s t i =
-            subst (λ (n : ℕ). SameOutcome N (Both N) (make L c.count p s λ s₃. In_block r c.body c.env s₃) (make L n q t λ s₃. In_block r d.body d.env s₃)) k.counts
+            subst (λ (n : ℕ). SameOutcome N (Both N) (make L c.count p s λ s₃. in_block r c.body c.env s₃) (make L n q t λ s₃. in_block r d.body d.env s₃)) k.counts
             (make_same L c.count p q i (same_block k.bodies k.envs (bindings_taken c.count i)))
     same_stat_rule (a_return a) m i = same_bind (h.expr_in a m i) λ v w s₁ t₁ u i₁. s_ok (somes u) i₁
 

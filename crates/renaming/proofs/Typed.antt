@@ -144,8 +144,8 @@ module _ {N : Name → Name → Type 0} (O : Corresponds N) where
   always_as {Δ} {b} a h = subst (λ (t : Ty). HasB Δ b (always t)) (same_type_tree a) h
 
   mutual
-    In_block : (a : Block) {Γ Δ : Ctx} {b : Block} {f : Flow} → HasB Γ a f → Alike N BLOCK a b → SameCtx N Γ Δ → HasB Δ b f
-    In_block (block p i) (BLOC h) (a_block a) c = BLOC (in_cmds i h a c)
+    in_block : (a : Block) {Γ Δ : Ctx} {b : Block} {f : Flow} → HasB Γ a f → Alike N BLOCK a b → SameCtx N Γ Δ → HasB Δ b f
+    in_block (block p i) (BLOC h) (a_block a) c = BLOC (in_cmds i h a c)
 
     in_cmds : (a : Cmds) {Γ Δ : Ctx} {b : Cmds} {f : Flow} → HasC Γ a f → Alike N CMDS a b → SameCtx N Γ Δ → HasC Δ b f
     in_cmds (def_then i j) (DECS h k) (a_def_then a b) c = let d = in_def i h a c in DECS d.1 (in_cmds j k b d.2)
@@ -164,26 +164,26 @@ module _ {N : Name → Name → Type 0} (O : Corresponds N) where
         (_, FUNREC (stays_free x y n m) (stays_formed t g) (declares v d) (typed_as t (typed_expr h e (one_name n w (extended v c)))), one_name n w c)
     in_def (fun_block p (at q x) i j k) (FUNP m g d h) (a_fun_block {y = y} n t a e) c =
         let v = same_values a in
-        (_, FUNP (stays_free x y n m) (stays_formed t g) (declares v d) (always_as t (In_block k h e (extended v c))), one_name n (ap (λ (t : Ty). plain (value t)) (same_fun_type a t)) c)
+        (_, FUNP (stays_free x y n m) (stays_formed t g) (declares v d) (always_as t (in_block k h e (extended v c))), one_name n (ap (λ (t : Ty). plain (value t)) (same_fun_type a t)) c)
     in_def (fun_rec_block p (at q x) i j k) (FUNRECP m g d h) (a_fun_rec_block {y = y} n t a e) c =
         let v = same_values a in
         let w = ap (λ (t : Ty). plain (value t)) (same_fun_type a t) in
-        (_, FUNRECP (stays_free x y n m) (stays_formed t g) (declares v d) (always_as t (In_block k h e (one_name n w (extended v c)))), one_name n w c)
+        (_, FUNRECP (stays_free x y n m) (stays_formed t g) (declares v d) (always_as t (in_block k h e (one_name n w (extended v c)))), one_name n w c)
     in_def (var p (at q x) i) (VAR m b) (a_var {y = y} n t) c =
         (_, VAR (stays_free x y n m) (subst IsBase (same_type_tree t) b), one_name n (ap (λ (t : Ty). plain (ref t)) (same_type_tree t)) c)
     in_def (proc p (at q x) i j) (PROC m d h) (a_proc {y = y} n a b) c =
-        (_, PROC (stays_free x y n m) (declares a d) (In_block j h b (extended a c)), one_name n (ap procedure (same_pars a)) c)
+        (_, PROC (stays_free x y n m) (declares a d) (in_block j h b (extended a c)), one_name n (ap procedure (same_pars a)) c)
     in_def (proc_rec p (at q x) i j) (PROCREC m d h) (a_proc_rec {y = y} n a b) c =
-        let w = ap procedure (same_pars a) in (_, PROCREC (stays_free x y n m) (declares a d) (In_block j h b (one_name n w (extended a c))), one_name n w c)
+        let w = ap procedure (same_pars a) in (_, PROCREC (stays_free x y n m) (declares a d) (in_block j h b (one_name n w (extended a c))), one_name n w c)
 
     in_stat : (a : Stat) {Γ Δ : Ctx} {b : Stat} {f : Flow} → HasS Γ a f → Alike N STAT a b → SameCtx N Γ Δ → HasS Δ b f
     in_stat (echo p i) (ECHO h) (a_echo a) c = ECHO (typed_expr h a c)
     in_stat (set p (at q x) i) (SET m h) (a_set {y = y} n a) c = SET (sym (found c x y n) ∙ m) (typed_expr h a c)
-    in_stat (if_stat p i j k) (IFS h l m o) (a_if_stat a b d) c = IFS (typed_expr h a c) (In_block j l b c) (In_block k m d c) o
-    in_stat (while p i j) (WHILE h k) (a_while a b) c = WHILE (typed_expr h a c) (In_block j k b c)
+    in_stat (if_stat p i j k) (IFS h l m o) (a_if_stat a b d) c = IFS (typed_expr h a c) (in_block j l b c) (in_block k m d c) o
+    in_stat (while p i j) (WHILE h k) (a_while a b) c = WHILE (typed_expr h a c) (in_block j k b c)
     in_stat (call p (at q x) i) (CALL m h) (a_call {y = y} n a) c = CALL (sym (found c x y n) ∙ m) (typed_args h a c)
     in_stat (return p i) (RET h) (a_return a) c = RET (typed_expr h a c)
 
   -- A tree that agrees with a typed one is typed.
   pub typed_alike : {b c : Block} → Alike N BLOCK b c → Typable b → Typable c
-  typed_alike a h = In_block _ h a no_name
+  typed_alike a h = in_block _ h a no_name

@@ -11,7 +11,7 @@ use Rattle.language.specs.Answers.{LimitStop, ErrorStop, SIZE, INDEX}
 use Rattle.language.specs.Names.{Op, Meaning, literal, operator, free, meaning, head_operator}
 use Rattle.language.specs.Numbers.{Computed, amount, fails}
 use Rattle.language.specs.Limits.{Limits}
-use Rattle.language.specs.Rules.{Val, in_z, in_f, in_fr, in_p, in_pr, in_a, in_b, Env, Cell, State, Returned, Outcome, ok, bind, need, unless_returned, otherwise, within, branch, take_unit, take_bindings, with_cells, enter, make, look, nth, fresh, store, as_address, Body, an_expr, a_block, give, give_cell, Level, exprs, args, cmds, In_block, in_body, read, name_rule, apply_rule, alloc_rule, element_rule, expr_rule, arg_rule, def_rule, rounds, stat_rule}
+use Rattle.language.specs.Rules.{Val, in_z, in_f, in_fr, in_p, in_pr, in_a, in_b, Env, Cell, State, Returned, Outcome, ok, bind, need, unless_returned, otherwise, within, branch, take_unit, take_bindings, with_cells, enter, make, look, nth, fresh, store, as_address, Body, an_expr, a_block, give, give_cell, Level, exprs, args, cmds, in_block, in_body, read, name_rule, apply_rule, alloc_rule, element_rule, expr_rule, arg_rule, def_rule, rounds, stat_rule}
 use Rattle.sentences.specs.Sentences.{Ends, came, halted, Anything, IsEcho}
 
 -- I is kept by each change of the state, and G holds of the values that stand in cells and of all that are no address
@@ -138,7 +138,7 @@ module _ (L : Limits) {I : State → Type 0} {G : Val → Type 0} (W : Kept I G)
     cmds_end (stat_then c cs) ρ s i = ends_then (h.stat_ends c ρ s i) λ s₁ i₁. cmds_end cs ρ s₁ i₁
     cmds_end (last c) ρ s i = h.stat_ends c ρ s i
 
-    block_ends : (b : Block) (ρ : Env) (s : State) → I s → Ends (If G) I (In_block r b ρ s)
+    block_ends : (b : Block) (ρ : Env) (s : State) → I s → Ends (If G) I (in_block r b ρ s)
     block_ends (block p cs) ρ s i = cmds_end cs ρ s i
 
     body_ends : (b : Body) (ρ : Env) (p : ℕ) (s : State) → I s → Ends G I (in_body r b ρ p s)
@@ -185,7 +185,7 @@ module _ (L : Limits) {I : State → Type 0} {G : Val → Type 0} (W : Kept I G)
         ends_need _ p s₁ i₁ λ c m. came tt (W.on_store s₁ a v c m u i₁)
     stat_rule_ends (if_stat p e a b) ρ s n i = ends_bind (h.expr_ends e ρ s i) λ v s₁ u i₁. ends_need _ p s₁ i₁ λ t _. ends_branch t (block_ends a ρ s₁ i₁) (block_ends b ρ s₁ i₁)
     stat_rule_ends (while p e b) ρ s n i =
-        rounds_end (suc L.fuel) (r.expr e ρ) (In_block r b ρ) (λ s₁ i₁. h.expr_ends e ρ s₁ i₁) (λ s₁ i₁. block_ends b ρ s₁ i₁) p s i
+        rounds_end (suc L.fuel) (r.expr e ρ) (in_block r b ρ) (λ s₁ i₁. h.expr_ends e ρ s₁ i₁) (λ s₁ i₁. block_ends b ρ s₁ i₁) p s i
     stat_rule_ends (call p (at q x) as') ρ s n i = ends_need _ p s i λ w _. ends_bind (args_end as' ρ s i) λ vs s₁ u i₁.
         ends_need _ p s₁ i₁ λ c _. make_ends c.count p s₁ i₁ λ i₂. block_ends c.body c.env _ i₂
     stat_rule_ends (return p e) ρ s n i = ends_bind (h.expr_ends e ρ s i) λ v s₁ u i₁. came u i₁

@@ -287,7 +287,7 @@ list_comma is_o p a u s t ls ts = refl
 begin : {f : Forest → Forest} {q : ℕ} {t : List Node} {from to : Parsed} {r : List Word} {S : ℕ → List Entry} {o : List ℕ → List ℕ} → from ≡ to → Went f q t to r S o → Went f q t from r S o
 begin e v = record { at = v.at; tab = v.tab; moves = e ∙ v.moves; wrote = v.wrote }
 
--- at its closer, a statement's end does as `sTail` would
+-- at its closer, a statement's end does as `sym_tail` would
 call_end : {r : List Word} → Closer r → (a b : ℕ) (u : Ctx) (s : List Entry) (t : List Node) (ls : List ℕ → List ℕ) → parse r (ent sym_k0 a (ctx b (lev u)) ∷ s) t ls ≡ parse r (ent sym_tail b u ∷ s) t ls
 unfolding parse
 call_end c_semi a b u s t ls = refl

@@ -111,7 +111,7 @@ infixr 60 ◌⨟◌
 data Then (A B : List Word → List Word → Type 0) : List Word → List Word → Type 0 where
   ◌⨟◌ : {ts m r : List Word} → A ts m → B m r → Then A B ts r
 
--- What may stand for a symbol. A symbol that ends what was begun before it says so: `sTail` takes the statement, `sArgs0` the argument.
+-- What may stand for a symbol. A symbol that ends what was begun before it says so: `sym_tail` takes the statement, `sym_args0` the argument.
 abbrev Item : Sym → List Word → List Word → Type 0
 Item sym_block = Is BLOCK
 Item sym_body = Then (Is CMDS) (Lit k_rbr)

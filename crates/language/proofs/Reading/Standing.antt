@@ -1,4 +1,4 @@
--- What a tree keeps of its text, its names and numbers with their places: `in_block b P` says that each of them has the property P.
+-- What a tree keeps of its text, its names and numbers with their places: `InsideBlock b P` says that each of them has the property P.
 use mathlib.Core.Path.{◌≡◌}
 use mathlib.Core.List.{List, [], ◌∷◌}
 use Prim.Native.Nat.{ℕ}

@@ -13,7 +13,7 @@ use Rattle.language.specs.Answers.{LimitStop, FUEL, DEPTH, CELLS, BINDINGS, OUTP
 use Rattle.language.specs.Names.{Op, not, eq, lt, add, sub, mul, div, Meaning, literal, operator, free, meaning, head_operator}
 use Rattle.language.specs.Numbers.{in_range, quotient, Computed, amount, fails, ranged, same_number, as_bit, negated, op1, op2, compute}
 use Rattle.language.specs.Limits.{Limits}
-use Rattle.language.specs.Rules.{Val, in_z, in_f, in_fr, in_p, in_pr, in_a, in_b, Env, empty, Cell, State, Returned, Why, stop, no_rule, Outcome, ok, halt, bind, need, unless_returned, otherwise, within, branch, take_unit, take_bindings, with_cells, put_out, enter, make, look, nth, fresh, store, Body, an_expr, a_block, as_numbers, if_numbers, operate, give, give_cell, Level, exprs, args, cmds, In_block, in_body, read, name_rule, apply_rule, alloc_rule, element_rule, expr_rule, arg_rule, def_rule, rounds, stat_rule, step, level, start, run, ended}
+use Rattle.language.specs.Rules.{Val, in_z, in_f, in_fr, in_p, in_pr, in_a, in_b, Env, empty, Cell, State, Returned, Why, stop, no_rule, Outcome, ok, halt, bind, need, unless_returned, otherwise, within, branch, take_unit, take_bindings, with_cells, put_out, enter, make, look, nth, fresh, store, Body, an_expr, a_block, as_numbers, if_numbers, operate, give, give_cell, Level, exprs, args, cmds, in_block, in_body, read, name_rule, apply_rule, alloc_rule, element_rule, expr_rule, arg_rule, def_rule, rounds, stat_rule, step, level, start, run, ended}
 use Rattle.language.specs.Outcome.{state_of}
 use Rattle.language.specs.Claims.{InLimits, UsedUp, NamesCell, UnsetCell}
 use Rattle.language.proofs.Running.Cells.{length_store}
@@ -211,7 +211,7 @@ module _ (L : Limits) {I : State → Type 0} {H : Why → State → Type 0} (W :
     cmds_k (stat_then c cs) ρ s i = keeps_then (λ s i. i) (h.stat_keeps c ρ s i) λ s₁ i₁. cmds_k cs ρ s₁ i₁
     cmds_k (last c) ρ s i = h.stat_keeps c ρ s i
 
-    block_k : (b : Block) (ρ : Env) (s : State) → I s → Keeps I H (In_block r b ρ s)
+    block_k : (b : Block) (ρ : Env) (s : State) → I s → Keeps I H (in_block r b ρ s)
     block_k (block p cs) ρ s i = cmds_k cs ρ s i
 
     body_k : (b : Body) (ρ : Env) (p : ℕ) (s : State) → I s → Keeps I H (in_body r b ρ p s)
@@ -259,7 +259,7 @@ module _ (L : Limits) {I : State → Type 0} {H : Why → State → Type 0} (W :
         keeps_need _ p s₁ i₁ λ c m. k_ok (W.on_store s₁ a v c m i₁)
     stat_k (if_stat p e a b) ρ s i =
         keeps_bind (h.expr_keeps e ρ s i) λ v s₁ i₁. keeps_need _ p s₁ i₁ λ t _. keeps_branch t (block_k a ρ s₁ i₁) (block_k b ρ s₁ i₁)
-    stat_k (while p e b) ρ s i = rounds_k (suc L.fuel) (r.expr e ρ) (In_block r b ρ) (λ s₁ i₁. h.expr_keeps e ρ s₁ i₁) (λ s₁ i₁. block_k b ρ s₁ i₁)
+    stat_k (while p e b) ρ s i = rounds_k (suc L.fuel) (r.expr e ρ) (in_block r b ρ) (λ s₁ i₁. h.expr_keeps e ρ s₁ i₁) (λ s₁ i₁. block_k b ρ s₁ i₁)
         (λ s₁. sim_after (u.expr_sim e ρ s₁)) (λ s₁. sim_after (block_sim u b ρ s₁)) p s (omega arith) i
     stat_k (call p (at q x) as') ρ s i = keeps_need _ p s i λ w _. keeps_bind (args_k as' ρ s i) λ vs s₁ i₁.
         keeps_need _ p s₁ i₁ λ c _. make_k c.count p s₁ i₁ λ i₂. block_k c.body c.env _ i₂

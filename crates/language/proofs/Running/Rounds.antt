@@ -9,7 +9,7 @@ use lib.Dec.{T, ltb, ltb→lt}
 use Rattle.language.specs.Syntax.{Expr, while, Block}
 use Rattle.language.specs.Answers.{LimitStop, FUEL}
 use Rattle.language.specs.Limits.{Limits}
-use Rattle.language.specs.Rules.{Val, Env, State, Returned, Outcome, ok, bind, need, unless_returned, within, branch, take_unit, enter, as_truth, In_block, rounds, level, run}
+use Rattle.language.specs.Rules.{Val, Env, State, Returned, Outcome, ok, bind, need, unless_returned, within, branch, take_unit, enter, as_truth, in_block, rounds, level, run}
 use Rattle.language.proofs.Running.Stable.{Mark, mark, Past, After, a_ok, a_halt, sim_after, block_sim, level_self}
 
 bind_eq : {A B : Type 0} {w : Mark} {o : Outcome A} {k k' : A → State → Outcome B} → After w o → ((a : A) (s : State) → Past w (mark s) → k a s ≡ k' a s) →
@@ -70,8 +70,8 @@ module _ (L : Limits) (test : State → Outcome Val) (run : State → Outcome Re
 pub while_rule_lem : (L : Limits) (d p : ℕ) (e : Expr) (b : Block) (ρ : Env) (s : State) →
     (level L (suc d)).stat (while p e b) ρ s ≡
     enter L p s (λ s₁. bind ((level L d).expr e ρ s₁) λ v s₂. need (as_truth v) p s₂ λ t.
-    branch t (unless_returned (In_block (level L d) b ρ s₂) λ s₃. (level L (suc d)).stat (while p e b) ρ s₃) (ok none s₂))
+    branch t (unless_returned (in_block (level L d) b ρ s₂) λ s₃. (level L (suc d)).stat (while p e b) ρ s₃) (ok none s₂))
 unfolding level
 while_rule_lem L d p e b ρ s =
     within_eq (ltb s.units L.fuel) FUEL p s λ _.
-    rounds_unroll L ((level L d).expr e ρ) (In_block (level L d) b ρ) (λ s. sim_after ((level_self L d).expr_sim e ρ s)) (λ s. sim_after (block_sim (level_self L d) b ρ s)) p (take_unit s)
+    rounds_unroll L ((level L d).expr e ρ) (in_block (level L d) b ρ) (λ s. sim_after ((level_self L d).expr_sim e ρ s)) (λ s. sim_after (block_sim (level_self L d) b ρ s)) p (take_unit s)

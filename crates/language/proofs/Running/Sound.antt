@@ -18,7 +18,7 @@ use Rattle.language.specs.Numbers.{in_range, quotient, Computed, amount, fails, 
 use Rattle.language.specs.Types.{Base, boolean, integer, Ty, base, fn, vec_of, Tys, tnil, tcons, BOOL, INT, type_of, Par, value, ref, Entity, plain, procedure, Ctx, find, extend, values, par, pars, param_name, param_names, declared, arg_types, Flow, never, may, always, takes, result}
 use Rattle.language.specs.Typing.{HasE, NUM, LITERAL, IDV, IDR, IF, AND, OR, PRIM, APP, ABS, ALLOC, NTH, LEN, VSET, HasEs, ONE, MORE, HasA, REF, VAL, HasAs, NO_ARGS, ARGS, Either, both_never, both_always, never_may, never_always, may_never, may_may, may_always, always_never, always_may, looped, Before, after_never, after_may, then_always, HasB, BLOC, HasC, DECS, STATS, END, HasD, CONST, FUN, FUNREC, VAR, PROC, PROCREC, HasS, FUNP, FUNRECP, ECHO, SET, IFS, WHILE, CALL, RET, Typable}
 use Rattle.language.specs.Limits.{Limits}
-use Rattle.language.specs.Rules.{Val, in_z, in_f, in_fr, in_p, in_pr, in_a, in_b, Env, empty, bound, Cell, State, Returned, Why, stop, no_rule, Outcome, ok, halt, bind, need, unless_returned, otherwise, within, branch, take_unit, with_cells, make, lookup_env, look, bind_all, nth, behind, fresh, store, as_number, as_truth, as_address, as_block, as_size, cell_in, operate, Entered, entering, also, Body, an_expr, a_block, open_function, open_procedure, give, give_cell, Level, exprs, args, cmds, In_block, in_body, read, name_rule, apply_rule, alloc_rule, element_rule, expr_rule, arg_rule, def_rule, rounds, stat_rule, step, level, start, run, ended}
+use Rattle.language.specs.Rules.{Val, in_z, in_f, in_fr, in_p, in_pr, in_a, in_b, Env, empty, bound, Cell, State, Returned, Why, stop, no_rule, Outcome, ok, halt, bind, need, unless_returned, otherwise, within, branch, take_unit, with_cells, make, lookup_env, look, bind_all, nth, behind, fresh, store, as_number, as_truth, as_address, as_block, as_size, cell_in, operate, Entered, entering, also, Body, an_expr, a_block, open_function, open_procedure, give, give_cell, Level, exprs, args, cmds, in_block, in_body, read, name_rule, apply_rule, alloc_rule, element_rule, expr_rule, arg_rule, def_rule, rounds, stat_rule, step, level, start, run, ended}
 use Rattle.language.specs.Claims.{NoRule}
 use Rattle.language.proofs.Typing.Names.{Has, has, head_typed}
 
@@ -522,7 +522,7 @@ module _ (L : Limits) {r : Level} (h : GoodLevel r) where
   cmds_ok s (STATS d ds b) m k = good_then b (h.stat_good s d m k) λ S₁ s₁ le₁ k₁. cmds_ok s₁ ds (env_ext le₁ m) k₁
   cmds_ok s (END d) m k = h.stat_good s d m k
 
-  pub block_ok : {Γ : Ctx} {b : Block} {f : Flow} {S : StoreT} {ρ : Env} (s : State) → HasB Γ b f → EnvT S ρ Γ → StoreOk S s.cells → Good (IsGiven f) S (In_block r b ρ s)
+  pub block_ok : {Γ : Ctx} {b : Block} {f : Flow} {S : StoreT} {ρ : Env} (s : State) → HasB Γ b f → EnvT S ρ Γ → StoreOk S s.cells → Good (IsGiven f) S (in_block r b ρ s)
   block_ok s (BLOC d) m k = cmds_ok s d m k
 
   body_ok : (b : Body) {Γ : Ctx} {t : Ty} {S : StoreT} {ρ : Env} (p : ℕ) (s : State) → HasBody Γ b t → EnvT S ρ Γ → StoreOk S s.cells →
@@ -600,7 +600,7 @@ module _ (L : Limits) {r : Level} (h : GoodLevel r) where
   def_ok s (PROCREC {ps = ps} _ _ d) m k = good_within _ _ _ _ (good _ ext_refl k (tbound (v_pr _ (declared ps) m (names_are ps) (entities_are ps) d) m))
 
   rounds_ok : (n : ℕ) {Γ : Ctx} {e : Expr} {b : Block} {f : Flow} {S : StoreT} {ρ : Env} (p : ℕ) (s : State) →
-      HasE Γ e BOOL → HasB Γ b f → EnvT S ρ Γ → StoreOk S s.cells → Good (IsGiven (looped f)) S (rounds L n (r.expr e ρ) (In_block r b ρ) p s)
+      HasE Γ e BOOL → HasB Γ b f → EnvT S ρ Γ → StoreOk S s.cells → Good (IsGiven (looped f)) S (rounds L n (r.expr e ρ) (in_block r b ρ) p s)
   rounds_ok zero p s d ds m k = ruled tt
   rounds_ok (suc n) {f = f} p s d ds m k =
       good_bind (h.expr_good s d m k) λ S₁ v s₁ le₁ k₁ q. good_need _ _ (truth_ok q) λ t _.
@@ -648,7 +648,7 @@ rules_fit (halt no_rule p s) (ruled r) h = r
 
 -- from any names and cells that fit the types
 pub block_sound : (L : Limits) (d : ℕ) {Γ : Ctx} {b : Block} {f : Flow} {S : StoreT} {ρ : Env} (s : State) → HasB Γ b f → EnvT S ρ Γ → StoreOk S s.cells →
-    ¬ NoRule (In_block (level L d) b ρ s)
+    ¬ NoRule (in_block (level L d) b ρ s)
 block_sound L d s t m k = rules_fit _ (block_ok L (level_ok L d) s t m k)
 
 pub sound : (L : Limits) (b : Block) → Typable b → ¬ NoRule (run L b)

@@ -14,7 +14,7 @@ use Rattle.language.specs.Answers.{LimitStop, ErrorStop, limit}
 use Rattle.language.specs.Names.{Op, Meaning, literal, operator, free, meaning, head_operator}
 use Rattle.language.specs.Numbers.{Computed, amount, fails}
 use Rattle.language.specs.Limits.{Limits, ◌⊑◌}
-use Rattle.language.specs.Rules.{Val, in_z, in_f, in_fr, in_p, in_pr, in_a, in_b, Env, empty, Cell, State, Returned, Why, stop, Outcome, ok, halt, bind, need, unless_returned, otherwise, within, branch, take_unit, take_bindings, with_cells, put_out, enter, make, look, Body, an_expr, a_block, fresh, store, give, give_cell, Level, exprs, args, cmds, In_block, in_body, read, name_rule, apply_rule, alloc_rule, element_rule, expr_rule, arg_rule, def_rule, rounds, stat_rule, bottom, step, level, start, run, ended}
+use Rattle.language.specs.Rules.{Val, in_z, in_f, in_fr, in_p, in_pr, in_a, in_b, Env, empty, Cell, State, Returned, Why, stop, Outcome, ok, halt, bind, need, unless_returned, otherwise, within, branch, take_unit, take_bindings, with_cells, put_out, enter, make, look, Body, an_expr, a_block, fresh, store, give, give_cell, Level, exprs, args, cmds, in_block, in_body, read, name_rule, apply_rule, alloc_rule, element_rule, expr_rule, arg_rule, def_rule, rounds, stat_rule, bottom, step, level, start, run, ended}
 use Rattle.language.specs.Outcome.{state_of}
 use Rattle.language.specs.Claims.{NotLimited}
 use Rattle.language.proofs.Running.Cells.{length_store}
@@ -228,7 +228,7 @@ module _ {r r' : Level} (h : SimLevel r r') where
   cmds_sim (stat_then c cs) ρ s = sim_then (h.stat_sim c ρ s) λ s₁. cmds_sim cs ρ s₁
   cmds_sim (last c) ρ s = h.stat_sim c ρ s
 
-  pub block_sim : (b : Block) (ρ : Env) (s : State) → Sim (mark s) (In_block r b ρ s) (In_block r' b ρ s)
+  pub block_sim : (b : Block) (ρ : Env) (s : State) → Sim (mark s) (in_block r b ρ s) (in_block r' b ρ s)
   block_sim (block p cs) ρ s = cmds_sim cs ρ s
 
   body_sim : (b : Body) (ρ : Env) (p : ℕ) (s : State) → Sim (mark s) (in_body r b ρ p s) (in_body r' b ρ p s)

@@ -14,7 +14,7 @@ use Rattle.language.specs.Answers.{LimitStop, ErrorStop}
 use Rattle.language.specs.Names.{Op, Meaning, literal, operator, free, meaning, head_operator}
 use Rattle.language.specs.Numbers.{Computed, amount, fails}
 use Rattle.language.specs.Limits.{Limits}
-use Rattle.language.specs.Rules.{Val, in_z, in_f, in_fr, in_p, in_pr, in_a, in_b, Env, Cell, State, Returned, Why, Outcome, ok, halt, bind, need, otherwise, unless_returned, within, branch, take_unit, with_cells, look, nth, behind, fresh, store, as_address, as_block, as_size, cell_in, Body, an_expr, a_block, give, give_cell, Level, exprs, args, cmds, In_block, in_body, read, name_rule, apply_rule, alloc_rule, expr_rule, arg_rule, def_rule, rounds, stat_rule}
+use Rattle.language.specs.Rules.{Val, in_z, in_f, in_fr, in_p, in_pr, in_a, in_b, Env, Cell, State, Returned, Why, Outcome, ok, halt, bind, need, otherwise, unless_returned, within, branch, take_unit, with_cells, look, nth, behind, fresh, store, as_address, as_block, as_size, cell_in, Body, an_expr, a_block, give, give_cell, Level, exprs, args, cmds, in_block, in_body, read, name_rule, apply_rule, alloc_rule, expr_rule, arg_rule, def_rule, rounds, stat_rule}
 use Rattle.language.specs.Outcome.{state_of}
 use Rattle.language.specs.Claims.{OthersHold, Nowhere, StoresNothing, ExprStores, ArgStores, StatStores, StoresGoToCells}
 
@@ -172,7 +172,7 @@ module _ {P : ℕ → Type 0} {cs : List Cell} where
     cmds_h (stat_then c ks) ρ t h = held_unless (stat_h c ρ t h) λ t₁ h₁. cmds_h ks ρ t₁ h₁
     cmds_h (last c) ρ t h = stat_h c ρ t h
 
-    block_h : (b : Block) (ρ : Env) (t : State) → Hold P cs t.cells → Held P cs (In_block r b ρ t)
+    block_h : (b : Block) (ρ : Env) (t : State) → Hold P cs t.cells → Held P cs (in_block r b ρ t)
     block_h (block p ks) ρ t h = cmds_h ks ρ t h
 
     body_h : (b : Body) (ρ : Env) (p : ℕ) (t : State) → Hold P cs t.cells → Held P cs (in_body r b ρ p t)
@@ -256,7 +256,7 @@ module _ (L : Limits) {r : Level} (n : StoresNothing r) where
       h_ok (hold_store a v (bound-to ∙ ap some (as_address_is w a is)) stored h)
   stat_held (if_stat p e a b) ρ s =
       held_bind _ (expr_h L n e ρ s here) λ v t _ h. held_need _ p t h λ k _. held_branch k (block_h L n a ρ t h) (block_h L n b ρ t h)
-  stat_held (while p e b) ρ s = held_rounds L (suc L.fuel) (r.expr e ρ) (In_block r b ρ) (λ t h. expr_h L n e ρ t h) (λ t h. block_h L n b ρ t h) p s here
+  stat_held (while p e b) ρ s = held_rounds L (suc L.fuel) (r.expr e ρ) (in_block r b ρ) (λ t h. expr_h L n e ρ t h) (λ t h. block_h L n b ρ t h) p s here
   stat_held (call p (at q x) as') ρ s =
       held_need _ p s here λ w _. held_bind _ (args_h L n as' ρ s here) λ vs t _ h. held_need _ p t h λ c _. held_within _ _ p t h (block_h L n c.body c.env _ h)
   stat_held (return p e) ρ s = held_bind _ (expr_h L n e ρ s here) λ v t _ h. h_ok h

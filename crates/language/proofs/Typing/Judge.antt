@@ -1,5 +1,5 @@
 -- The judge, executable: a type, or the refusal and the place of the first node whose own rule cannot be met.
--- Nothing here is to be believed: `judge-accepts` and `judge-refuses` of Judged tie it to the typing rules.
+-- Nothing here is to be believed: `judge_accepts` and `judge_refuses` of Judged tie it to the typing rules.
 use Prim.Native.Nat.{ℕ}
 use mathlib.Core.Bool.{Bool, true, false}
 use mathlib.Core.List.{List, [], ◌∷◌}
