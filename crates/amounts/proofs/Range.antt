@@ -1,28 +1,20 @@
 -- The range in code, that of the signed words, is the language's, and what lies outside is RANGE.
-use mathlib.Core.Path.{◌≡◌, ap, ◌∙◌}
+use mathlib.Core.Path.{◌≡◌}
 use mathlib.Core.Bool.{Bool, true, false}
 use Prim.Native.Nat.{ℕ, zero, suc, ◌^◌, ◌<◌}
 use native.Mathlib.Omega.{arith}
 use lib.IntN.{ℤ, pos, negsuc}
 use borrow.Author.Tests.{lt-leb, le-leb}
 use mir.Syntax.{w64}
-use mir.Val.{to_z, of_z, SFits}
-use mir.Facts.{to_z-of_z}
+use mir.Val.{SFits}
 use Rattle.language.specs.Answers.{RANGE}
 use Rattle.language.specs.Numbers.{top, amount, fails, ranged}
 use Rattle.amounts.specs.Signs.{signed}
-
--- a local holds the bits of z, which are read back as z where z fits
-abbrev pub back : ℤ → ℤ
-back z = to_z w64 (of_z w64 z)
 
 -- every number that fits a word is in the range
 pub whole : (z : ℤ) → SFits w64 z → amount z ≡ ranged z
 whole (pos n) f = simp (le-leb n top (omega (arith, f.sfits)))
 whole (negsuc n) f = simp (le-leb n top (omega (arith, f.sfits)))
-
-pub kept : (z : ℤ) → SFits w64 z → amount (back z) ≡ ranged z
-kept z f = ap amount (to_z-of_z f) ∙ whole z f
 
 -- beyond each end
 pub above : (n : ℕ) → top < n → fails RANGE ≡ ranged (pos n)

@@ -1,26 +1,17 @@
--- Clearing, entry by entry, and what is known of a cleared table.
-use mathlib.Core.Path.{◌≡◌, refl, ap, ◌∙◌}
+-- What is known of a cleared table, and that code clears one so.
+use mathlib.Core.Path.{◌≡◌, refl, sym, ap, ◌∙◌}
 use mathlib.Core.Bool.{Bool, true, false}
 use mathlib.Core.List.{List, [], ◌∷◌, ◌++◌}
-use Prim.Native.Nat.{ℕ, zero, suc, ◌+◌, ◌<◌, ◌≤◌, min}
+use Prim.Native.Nat.{ℕ, zero, suc, ◌≤◌, min}
 use native.Mathlib.Nat.{not-suc-le-zero, le_of_suc-le-suc}
-use native.Mathlib.Numerals.{add-one}
 use native.Mathlib.Omega.{arith}
 use lib.Dec.{leb}
-use lib.ListN.{length, set, take, drop, replicate, length-set}
+use lib.ListN.{length, take, drop, replicate}
+use lib.Seq.{length-take-le}
 use borrow.Author.Tests.{leb-true, leb-false}
 use Rattle.limits.specs.Cleared.{zeroed}
 
 module _ {A : Type 0} (v : A) where
-  -- ---- one entry more
-  zeroed_suc : (l : List A) (i : ℕ) → i < length l → set (zeroed v i l) i v ≡ zeroed v (suc i) l
-  zeroed_suc [] i h = absurd (not-suc-le-zero h)
-  zeroed_suc (x ∷ l) zero h = refl
-  zeroed_suc (x ∷ l) (suc i) h = ap (λ (t : List A). v ∷ t) (zeroed_suc l i (le_of_suc-le-suc h))
-
-  pub zeroed_more : (l : List A) (i : ℕ) → i < length l → set (zeroed v i l) i v ≡ zeroed v (i + 1) l
-  zeroed_more l i h = rw add-one (zeroed_suc l i h)
-
   -- no further than the table's end
   zeroed_all : (l : List A) (n : ℕ) → length l ≤ n → zeroed v (length l) l ≡ zeroed v n l
   zeroed_all [] zero h = refl
@@ -38,32 +29,6 @@ module _ {A : Type 0} (v : A) where
       by false e =
           let m : min n (length l) ≡ length l = omega (arith, leb-false n (length l) e) in
           ap (λ (k : ℕ). zeroed v k l) m ∙ zeroed_all l n (omega (arith, leb-false n (length l) e))
-
-  -- ---- the loop: of the table l the first i entries are cleared, and its end is the smaller of n and the length
-  pub record Clearing (l : List A) (n end : ℕ) (t : List A) (i : ℕ) : Type 0 where
-    pub stops : end ≡ min n (length l)
-    pub within : i ≤ end
-    pub long : length t ≡ length l
-    pub same : t ≡ zeroed v i l
-
-  module _ (l : List A) (n end : ℕ) where
-    pub clearing_first : end ≡ min n (length l) → Clearing l n end l 0
-    clearing_first e = record { stops = e; within = omega arith; long = refl; same = refl }
-
-    module _ (t : List A) (i : ℕ) (c : Clearing l n end t i) where
-      pub clearing_more : i < end → Clearing l n end (set t i v) (i + 1)
-      clearing_more h =
-          record {
-            stops = c.stops;
-            within = omega arith;
-            long = length-set t i v ∙ c.long;
-            same = ap (λ (u : List A). set u i v) c.same ∙ zeroed_more l i (omega arith);
-          }
-
-      pub clearing_done : end ≤ i → t ≡ zeroed v n l
-      clearing_done h =
-          let e : i ≡ min n (length l) = omega (arith, c.within, c.stops) in
-          c.same ∙ ap (λ (k : ℕ). zeroed v k l) e ∙ zeroed_min l n
 
   -- ---- what is known of a cleared table
   pub length_zeroed : (n : ℕ) (l : List A) → length (zeroed v n l) ≡ length l
@@ -85,3 +50,10 @@ module _ {A : Type 0} (v : A) where
   drop_zeroed zero l = refl
   drop_zeroed (suc n) [] = refl
   drop_zeroed (suc n) (x ∷ l) = drop_zeroed n l
+
+  -- ---- the code's way: the front is filled, and the rest stands behind it
+  pub front_filled :
+      (l : List A) (n end : ℕ) (t : List A) → end ≡ min n (length l) → t ≡ replicate (length (take end l)) v → t ++ drop end l ≡ zeroed v n l
+  front_filled l n end t e f =
+      let h : end ≤ length l = omega (arith, e) in
+      rw (f, length-take-le end l h) (sym (zeroed_is end l h)) ∙ ap (λ (k : ℕ). zeroed v k l) e ∙ zeroed_min l n

@@ -11,10 +11,10 @@ use borrow.Author.Tests.{ne_eqb, lt-leb}
 use Rattle.language.specs.Answers.{BYTE, NUMBER}
 use Rattle.language.specs.Numbers.{in_range}
 use Rattle.language.specs.Words.{number, is_sep, is_letter, is_digit, stretch, decimal, Front, word, bad, numeral, minus, front}
-use Rattle.numerals.specs.Written.{written, number_front, read_number}
-use Rattle.amounts.specs.declared.Amount.TheVariants.{Is, Range, Zero}
-use Rattle.numerals.specs.declared.Read.{Read}
-use Rattle.numerals.specs.declared.Read.TheVariants.{Number, Not}
+use Rattle.numerals.specs.Written.{written, numeral_to, number_front, read_number}
+use Rattle.std.specs.Prelude.{Option, Some, None, Ok, Err}
+use Rattle.amounts.specs.declared.AmountError.TheVariants.{Range}
+use Rattle.numerals.specs.declared.Numeral.{Numeral}
 use Rattle.numerals.proofs.Reading.{digit_bounds}
 
 pub at_front : (text : List ℕ) (i : ℕ) {s : List ℕ} → drop i text ≡ s → read_number text i ≡ number_front i s
@@ -37,36 +37,34 @@ end_is i n = omega arith
 
 pub number_digit :
     (i b : ℕ) (s : List ℕ) → is_digit b ≡ true
-    → number_front i (b ∷ s) ≡ Number (i + 1 + length (stretch is_digit s)) (written (pos (decimal 0 (stretch is_digit (b ∷ s)))))
+    → number_front i (b ∷ s) ≡ numeral_to (i + 1 + length (stretch is_digit s)) (written (pos (decimal 0 (stretch is_digit (b ∷ s)))))
 number_digit i b s d =
     simp (digit_not b d 45 refl, d)
-    (ap (λ n. Number n (written (pos (decimal 0 (b ∷ stretch is_digit s))))) (end_is i (length (stretch is_digit s))))
+    (ap (λ n. numeral_to n (written (pos (decimal 0 (b ∷ stretch is_digit s))))) (end_is i (length (stretch is_digit s))))
 
 pub number_minus :
     (i b : ℕ) (s : List ℕ) → is_digit b ≡ true
-    → number_front i (45 ∷ b ∷ s) ≡ Number (i + 1 + length (stretch is_digit (b ∷ s))) (written (neg_ℤ (pos (decimal 0 (stretch is_digit (b ∷ s))))))
+    → number_front i (45 ∷ b ∷ s) ≡ numeral_to (i + 1 + length (stretch is_digit (b ∷ s))) (written (neg_ℤ (pos (decimal 0 (stretch is_digit (b ∷ s))))))
 number_minus i b s d = simp d
 
-pub number_none : (i b : ℕ) (s : List ℕ) → is_digit b ≡ false → eqb b 45 ≡ false → number_front i (b ∷ s) ≡ Not
+pub number_none : (i b : ℕ) (s : List ℕ) → is_digit b ≡ false → eqb b 45 ≡ false → number_front i (b ∷ s) ≡ None
 number_none i b s d m = simp (m, d)
 
-pub minus_none : (i b : ℕ) (s : List ℕ) → is_digit b ≡ false → number_front i (45 ∷ b ∷ s) ≡ Not
+pub minus_none : (i b : ℕ) (s : List ℕ) → is_digit b ≡ false → number_front i (45 ∷ b ∷ s) ≡ None
 minus_none i b s d = simp d
 
 -- ---- what it says that begins at place `i`
-abbrev pub front_of : ℕ → Read → Front
-front_of i (Number end (Is z)) = word (number i z) (end - (i + 1))
-front_of i (Number end Range) = bad NUMBER
-front_of i (Number end Zero) = bad NUMBER
-front_of i Not = bad BYTE
+abbrev pub front_of : ℕ → Option Numeral → Front
+front_of i None = bad BYTE
+front_of i (Some n) = elim n.value [ Ok z ↦ word (number i z) (n.end - (i + 1)) | Err e ↦ bad NUMBER ]
 
-pub front_numeral : (i more : ℕ) (z : ℤ) → front_of i (Number (i + 1 + more) (written z)) ≡ numeral i z more
+pub front_numeral : (i more : ℕ) (z : ℤ) → front_of i (numeral_to (i + 1 + more) (written z)) ≡ numeral i z more
 front_numeral i more z = by (in_range z)
   where
     left : i + 1 + more - (i + 1) ≡ more
     left = omega arith
 
-    by : (t : Bool) → front_of i (Number (i + 1 + more) (cond t (Is z) Range)) ≡ cond t (word (number i z) more) (bad NUMBER)
+    by : (t : Bool) → front_of i (numeral_to (i + 1 + more) (cond t (Ok z) (Err Range))) ≡ cond t (word (number i z) more) (bad NUMBER)
     by true = ap (word (number i z)) left
     by false = refl
 

@@ -1,31 +1,26 @@
--- The digits at a place, one at a time, and the number that they write, kept at the cap.
+-- The digits at the front of some bytes, one at a time, and the number that they write, kept at the cap.
 use mathlib.Core.Path.{◌≡◌, refl, sym, ap, subst, ◌∙◌}
-use mathlib.Core.Bool.{Bool, true, false, ◌&&◌}
+use mathlib.Core.Bool.{Bool, true, false, cond, ◌&&◌}
 use mathlib.Core.List.{List, [], ◌∷◌}
 use Prim.Native.Nat.{ℕ, ◌+◌, ◌-◌, ◌*◌, ◌≤◌, ◌<◌, min}
 use native.Mathlib.Numerals.{add-one}
 use native.Mathlib.Omega.{arith}
 use lib.Dec.{T, leb}
-use lib.ListN.{length, drop, get_or, drop_of_length-le}
+use lib.ListN.{length, take, drop, get_or, drop_of_length-le}
 use lib.Seq.{drop-cons}
-use borrow.Author.Tests.{leb-true, leb-false, eq-eqb, ne_eqb}
+use borrow.Author.Tests.{leb-true, leb-false}
 use Rattle.language.specs.Numbers.{ranged}
 use Rattle.language.specs.Words.{is_digit, stretch, decimal}
-use Rattle.amounts.specs.Amounts.{computed}
+use Rattle.std.specs.Prelude.{None, take_while, fold}
+use Rattle.std.specs.Char.{is_ascii_digit}
+use Rattle.std.proofs.lemmas.List.Sums.{take_while-cons}
+use Rattle.amounts.specs.Amounts.{Amount, computed}
 use Rattle.amounts.specs.Signs.{signed}
-use Rattle.numerals.specs.Written.{written, cap, DigitsEnd, written_from, read_number}
-use Rattle.amounts.specs.declared.Amount.{Amount}
-use Rattle.numerals.specs.declared.Read.TheVariants.{Number, Not}
+use Rattle.numerals.specs.Written.{written, numeral_to, cap, written_from}
 use Rattle.amounts.proofs.Range.{far}
 use Rattle.numerals.proofs.Written.{is_written}
 
 -- ---- a digit
-pub and_second : (a b : Bool) → a ≡ true → b ≡ (a && b)
-and_second a b e = rw e refl
-
-pub and_first : (a b : Bool) → a ≡ false → a ≡ (a && b)
-and_first a b e = rw e refl
-
 and_both : (a b : Bool) → (a && b) ≡ true → (a ≡ true) × (b ≡ true)
 and_both true b e = (refl, e)
 and_both false b e = absurd (subst T (sym e) tt)
@@ -57,32 +52,37 @@ kept_decimal (d ∷ ds) n =
     ∙ ap (λ (m : ℕ). min (decimal m ds) cap) (kept_step n (d - 48))
     ∙ kept_decimal ds (n * 10 + (d - 48))
 
--- ---- the loop: the digits from `from` up to i are read and write v, and what is left gives the same answer
-pub record Reading (s : List ℕ) (from i v : ℕ) : Type 0 where
-  pub end : i + length (stretch is_digit (drop i s)) ≡ from + length (stretch is_digit (drop from s))
-  pub small : v ≤ cap
-  pub same : min (decimal v (stretch is_digit (drop i s))) cap ≡ min (decimal 0 (stretch is_digit (drop from s))) cap
+-- ---- the digits, one at a time, each kept at the cap
+pub folded : (ds : List ℕ) → fold (λ v b. min (v * 10 + (b - 48)) cap) 0 ds ≡ min (decimal 0 ds) cap
+folded ds = go ds 0 (omega arith)
+  where
+    go : (ds : List ℕ) (n : ℕ) → n ≤ cap → fold (λ v b. min (v * 10 + (b - 48)) cap) n ds ≡ min (decimal n ds) cap
+    go [] n h = omega arith
+    go (d ∷ ds) n h = go ds (min (n * 10 + (d - 48)) cap) (omega arith) ∙ kept_decimal ds (n * 10 + (d - 48))
 
-pub first : (s : List ℕ) (from : ℕ) → Reading s from from 0
-first s from = record { end = refl; small = omega arith; same = refl }
+-- ---- a stretch, as the library takes it
+pub stretch_taken : (p : ℕ → Bool) (s : List ℕ) → take_while p s ≡ stretch p s
+stretch_taken p [] = refl
+stretch_taken p (b ∷ s) = take_while-cons p b s ∙ ap (λ l. cond (p b) (b ∷ l) []) (stretch_taken p s)
 
-module _ (s : List ℕ) (from i v : ℕ) (r : Reading s from i v) where
-  pub more : i < length s → is_digit (get_or s i 0) ≡ true → Reading s from (i + 1) (min (v * 10 + (get_or s i 0 - 48)) cap)
-  more h d =
-      let e = stretch_goes is_digit s i h d in
-      record {
-        end = omega (arith, r.end, ap length e);
-        small = omega arith;
-        same =
-            kept_decimal (stretch is_digit (drop (i + 1) s)) (v * 10 + (get_or s i 0 - 48))
-            ∙ sym (ap (λ (l : List ℕ). min (decimal v l) cap) e)
-            ∙ r.same;
-      }
+pub digits_taken : (s : List ℕ) → take_while (λ b. is_ascii_digit b) s ≡ stretch is_digit s
+digits_taken s = stretch_taken is_digit s
 
-  pub done : stretch is_digit (drop i s) ≡ [] → DigitsEnd (stretch is_digit (drop from s)) from i v
-  done e =
-      let q : min (decimal v (stretch is_digit (drop i s))) cap ≡ min v cap = ap (λ (l : List ℕ). min (decimal v l) cap) e in
-      record { ends = omega (arith, r.end, ap length e); kept = omega (arith, r.same, r.small, q) }
+pub taken_long : (p : ℕ → Bool) (s : List ℕ) → length (stretch p s) ≤ length s
+taken_long p [] = omega arith
+taken_long p (b ∷ s) = by (p b) (taken_long p s)
+  where
+    by : (t : Bool) → length (stretch p s) ≤ length s → length (cond t (b ∷ stretch p s) []) ≤ length (b ∷ s)
+    by true h = omega (arith, h)
+    by false h = omega arith
+
+pub take_stretch : (p : ℕ → Bool) (s : List ℕ) → take (length (stretch p s)) s ≡ stretch p s
+take_stretch p [] = refl
+take_stretch p (b ∷ s) = by (p b) (take_stretch p s)
+  where
+    by : (t : Bool) → take (length (stretch p s)) s ≡ stretch p s → take (length (cond t (b ∷ stretch p s) [])) (b ∷ s) ≡ cond t (b ∷ stretch p s) []
+    by true h = ap (λ l. b ∷ l) h
+    by false h = refl
 
 -- ---- the answer
 written_kept : (a : Amount) (negative : Bool) (n : ℕ) → computed a ≡ ranged (signed negative (min n cap)) → a ≡ written (signed negative n)
@@ -97,27 +97,19 @@ written_kept a negative n c = by (leb n cap) refl
         let h : cap < n = leb-false n cap e in
         is_written a (signed negative n) (c ∙ sym (far negative (min n cap) (omega arith)) ∙ far negative n (omega arith))
 
-module _ (from : ℕ) (negative : Bool) (ds : List ℕ) (end v : ℕ) (d : DigitsEnd ds from end v) where
-  pub written_none : end ≡ from → Not ≡ written_from from negative ds
-  written_none h = by ds (omega (arith, d.ends))
+module _ (from : ℕ) (negative : Bool) (ds : List ℕ) where
+  pub written_none : length ds ≡ 0 → None ≡ written_from from negative ds
+  written_none h = by ds h
     where
-      by : (l : List ℕ) → length l ≡ 0 → Not ≡ written_from from negative l
+      by : (l : List ℕ) → length l ≡ 0 → None ≡ written_from from negative l
       by [] e = refl
       by (b ∷ l) e = absurd (omega arith)
 
-  pub written_some : (end ≡ from → ⊥) → (a : Amount) → computed a ≡ ranged (signed negative v) → Number end a ≡ written_from from negative ds
-  written_some h a c = by ds d.ends d.kept
+  pub written_some :
+      (n v : ℕ) → n ≡ length ds → (n ≡ 0 → ⊥) → v ≡ min (decimal 0 ds) cap → (a : Amount) → computed a ≡ ranged (signed negative v)
+      → numeral_to (from + n) a ≡ written_from from negative ds
+  written_some n v e h k a c = by ds e k
     where
-      by : (l : List ℕ) → end ≡ from + length l → v ≡ min (decimal 0 l) cap → Number end a ≡ written_from from negative l
-      by [] e k = absurd (h (omega arith))
+      by : (l : List ℕ) → n ≡ length l → v ≡ min (decimal 0 l) cap → numeral_to (from + n) a ≡ written_from from negative l
+      by [] e k = absurd (h e)
       by (b ∷ l) e k = rw (e, written_kept a negative (decimal 0 (b ∷ l)) (c ∙ ap (λ (n : ℕ). ranged (signed negative n)) k)) refl
-
-module _ (s : List ℕ) (at : ℕ) where
-  pub none_at : length s ≤ at → Not ≡ read_number s at
-  none_at h = rw (drop_of_length-le s {i = at} h) refl
-
-  pub minus_at : at < length s → get_or s at 0 ≡ 45 → written_from (at + 1) true (stretch is_digit (drop (at + 1) s)) ≡ read_number s at
-  minus_at h e = rw (drop-cons s at 0 h, add-one) (simp (eq-eqb (get_or s at 0) 45 e))
-
-  pub plain_at : at < length s → (get_or s at 0 ≡ 45 → ⊥) → written_from at false (stretch is_digit (drop at s)) ≡ read_number s at
-  plain_at h e = rw (drop-cons s at 0 h) (simp (ne_eqb (get_or s at 0) 45 e))
