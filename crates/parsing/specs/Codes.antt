@@ -2,7 +2,7 @@
 use Rattle.std.specs.Prelude.{List, [], ◌∷◌, ◌++◌, map, ℕ, ◌+◌, ◌*◌, length}
 use Rattle.std.proofs.Math.Option.{Option, none, some}
 use Rattle.language.proofs.Reading.Machine.{cal, lev, Sym, Act, skip, leaf, fork, turn, lead, Push, kid, deep, same, body, back, call, Rule, rule}
-use Rattle.language.proofs.Reading.Machine.{rules, pick, Entry, ent}
+use Rattle.language.proofs.Reading.Machine.{rules, Entry, ent}
 use Rattle.language.proofs.Reading.Machine.{sym_block, sym_body, sym_tail, sym_semi, sym_cn, sym_ct, sym_expr, sym_funh, sym_fn, sym_ft, sym_fl, sym_arg1, sym_arg0, sym_colon, sym_type, sym_vn}
 use Rattle.language.proofs.Reading.Machine.{sym_proch, sym_pn, sym_pl, sym_argp1, sym_argp0, sym_varn, sym_sn, sym_ic, sym_ib, sym_wc, sym_kn, sym_k1, sym_k0, sym_paren, sym_parenp, sym_e3, sym_e2}
 use Rattle.language.proofs.Reading.Machine.{sym_e1, sym_rp, sym_args1, sym_args0, sym_an, sym_ts1, sym_ts0, sym_tr, sym_tp, sym_at, sym_farg1, sym_farg0, sym_fbody, sym_fopen, sym_end}

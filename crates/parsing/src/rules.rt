@@ -1,7 +1,118 @@
 // The grammar's rules as a table.
 
-ghost use Rattle.std.specs.Prelude.{◌≡◌, ◌-◌, take, drop};
-ghost use Rattle.parsing.specs.Steps.{found, rule_in};
+ghost use Rattle.std.specs.Prelude.{◌≡◌, ◌-◌, ◌<◌, take, drop};
+ghost use Rattle.parsing.specs.Steps.{act_in, kind_in, how_in, push_in, beside_in, found, rule_in};
+
+use crate::PLACES;
+use crate::stack::symbol_in;
+
+// What a rule writes: nothing, a node without children or with children, another kind for the last node; or the first command of a function's block.
+#[derive(Clone, Copy)]
+pub enum Act {
+    Skip,
+    Leaf,
+    Fork,
+    Turn,
+    Lead,
+}
+
+// How a rule pushes: with no sibling before (Kid), and a level deeper (Deep); with the sibling before that the word's own entry has (Same), and outside the
+// CALL or the function that this stands in (Body); with that CALL or function as the sibling before (Back); or within the new node, which is one (Call).
+#[derive(Clone, Copy)]
+pub enum How {
+    Kid,
+    Deep,
+    Same,
+    Body,
+    Back,
+    Call,
+}
+
+// The symbol that a rule pushes, and how.
+#[derive(Clone, Copy)]
+pub struct Push {
+    pub how: How,
+    pub symbol: u64,
+}
+
+// A rule, without the kind of word that it is for.
+#[derive(Clone, Copy)]
+pub struct Rule {
+    bits: u64,
+}
+
+// Where the parts of a rule begin in its number: the kind of word (7 bits), what such a word writes (3 bits) and the kind of node (5 bits), how it pushes
+// (3 bits) and which symbol (6 bits), whether one comes beside the new node, and which (6 bits). The last bit is always 1.
+// Kept: a rule of the table is one number, as `rule_list` of specs/Codes has it; `Rule` reads it.
+const WORD: u64 = 1 << 25;
+
+const ACT: u64 = 1 << 22;
+
+const KIND: u64 = 1 << 17;
+
+const HOW: u64 = 1 << 14;
+
+const PUSHED: u64 = 1 << 8;
+
+const FLAG: u64 = 1 << 7;
+
+const BESIDE: u64 = 1 << 1;
+
+const SYMBOLS: u64 = 64;
+
+impl Rule {
+    pub fn act(self) -> Act
+        ensures { result ≡ act_in self }
+    {
+        match self.bits / ACT % 8 {
+            0 => Act::Skip,
+            1 => Act::Leaf,
+            3 => Act::Turn,
+            4 => Act::Lead,
+            _ => Act::Fork,
+        }
+    }
+
+    // The kind of node that it writes.
+    pub fn kind(self) -> u64
+        ensures kind { result ≡ kind_in self }
+        ensures small { result < 32 }
+    {
+        self.bits / KIND % 32
+    }
+
+    pub fn how(self) -> Option<How>
+        ensures { result ≡ how_in self }
+    {
+        match self.bits / HOW % 8 {
+            1 => Some(How::Kid),
+            2 => Some(How::Deep),
+            3 => Some(How::Same),
+            4 => Some(How::Body),
+            5 => Some(How::Back),
+            6 => Some(How::Call),
+            _ => None,
+        }
+    }
+
+    pub fn push(self) -> Option<Push>
+        ensures { result ≡ push_in self }
+    {
+        let how = self.how()?;
+        let symbol = self.bits / PUSHED % SYMBOLS;
+        Some(Push { how, symbol })
+    }
+
+    // The symbol that comes beside the new node.
+    pub fn beside(self) -> Option<u64>
+        ensures { result ≡ beside_in self }
+    {
+        if self.bits / FLAG % 2 == 0 {
+            return None;
+        }
+        Some(self.bits / BESIDE % SYMBOLS)
+    }
+}
 
 // The rules of each symbol of the grammar's machine, the kind of word in the first seven bits: what such a word writes and pushes where the symbol stands.
 pub const RULES: [u32; 147] = [
@@ -114,33 +225,39 @@ pub const STARTS: [u8; 49] = [
     131, 135, 146, 147,
 ];
 
-// The rule for a kind of word, of those from one place of the table up to another: 0 where there is none.
-fn find(rules: &[u32], kind: u64, from: usize, to: usize) -> u64
-    ensures { result ≡ found kind (take (to - from) (drop from rules.now)) }
+// The first of some rules for a kind of word.
+fn find(rules: &[u32], kind: u64) -> Option<Rule>
+    ensures { result ≡ found kind rules.now }
 {
-    let mut i = from;
-    while i < to {
-        if rules.len() <= i {
-            return 0;
+    for packed in rules {
+        let packed = *packed as u64;
+        if kind == packed / WORD {
+            return Some(Rule {
+                bits: packed % WORD,
+            });
         }
-        let rule = rules[i] as u64;
-        if kind == rule / 33554432 {
-            return rule % 33554432;
-        }
-        i += 1;
     }
-    0
+    None
 }
 
-// The rule for the entry `w` of the stack and the word `x`, by the tables `RULES` and `STARTS` that it is lent: 0 where there is none.
-pub fn rule_for(rules: &[u32], starts: &[u8], w: u64, x: u64) -> u64
+// The rules from one place of the table up to another, as far as the table goes.
+fn between(rules: &[u32], from: usize, to: usize) -> &[u32]
+    ensures { result.now ≡ take (to - from) (drop from rules.now) }
+{
+    let end = to.min(rules.len());
+    let start = from.min(end);
+    &rules[start..end]
+}
+
+// The rule for the entry `w` of the stack and the word `x`, by the tables `RULES` and `STARTS` that it is lent.
+pub fn rule_for(rules: &[u32], starts: &[u8], w: u64, x: u64) -> Option<Rule>
     ensures { result ≡ rule_in rules.now starts.now w x }
 {
-    let symbol = (w / 1099511627776) as usize;
+    let symbol = symbol_in(w) as usize;
     if starts.len() <= symbol + 1 {
-        return 0;
+        return None;
     }
     let from = starts[symbol] as usize;
     let to = starts[symbol + 1] as usize;
-    find(rules, x / 65536, from, to)
+    find(between(rules, from, to), x / PLACES)
 }

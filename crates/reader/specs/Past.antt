@@ -1,12 +1,9 @@
 -- How far a reader comes.
-use Rattle.std.specs.Prelude.{ℕ}
-use Rattle.words.specs.declared.Found.{Found}
-use Rattle.words.specs.declared.Found.TheVariants.{End, Mark, Number, Name, Refused}
+use Rattle.std.specs.Prelude.{ℕ, None, Some, Ok, Err}
+use Rattle.words.specs.Next.{Found}
 
 -- the place past a word, and the place itself where there is none
 abbrev pub past_found : Found → (place : ℕ) → ℕ
-past_found (Mark k p e) i = e
-past_found (Number z p e) i = e
-past_found (Name p e) i = e
-past_found End i = i
-past_found (Refused n p) i = i
+past_found (Ok (Some word)) i = word.end
+past_found (Ok None) i = i
+past_found (Err error) i = i

@@ -1,18 +1,18 @@
 -- The machine on numbers gives the answer of reading: the tree's table, or the refusal's number and place.
-use mathlib.Core.Path.{◌≡◌, refl, sym, ◌∙◌, ap, subst}
+use mathlib.Core.Path.{◌≡◌, refl, sym, ◌∙◌, ap}
 use mathlib.Core.List.{List, [], ◌∷◌, ◌++◌, map}
 use mathlib.Core.Option.{Option, none, some}
 use mathlib.Core.Bool.{Bool, true, false, cond}
-use Prim.Native.Nat.{ℕ, suc, ◌+◌, ◌<◌, ◌≤◌}
+use Prim.Native.Nat.{ℕ, ◌<◌, ◌≤◌}
 use native.Mathlib.Omega.{arith}
 use lib.Dec.{ltb}
 use lib.ListN.{length, drop, length-map}
 use Rattle.language.specs.Syntax.{Block}
-use Rattle.language.specs.Answers.{Result, fine, refuse, refusal_number}
+use Rattle.language.specs.Answers.{fine}
 use Rattle.language.specs.Words.{Word, place_word, words_of, most}
 use Rattle.language.specs.Table.{Forest, shape_block, Node, word_of, enc, table}
 use Rattle.language.specs.Levels.{deepest}
-use Rattle.language.proofs.Reading.Machine.{tag, Entry, ent, opened, places, follow, act, Rule, rule, rules, pick, Parsed, through, stuck, parse, start, fire}
+use Rattle.language.proofs.Reading.Machine.{tag, Entry, ent, opened, Rule, rule, rules, pick, Parsed, through, stuck, parse, start, fire}
 use Rattle.language.proofs.Reading.Bounds.{End, finished, wrong, too_deep, fire_b, bounded, answer_of}
 use Rattle.language.proofs.Reading.Bounded.{bounded_answer}
 use Rattle.language.proofs.Reading.Descent.{Got}

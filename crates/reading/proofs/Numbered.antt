@@ -1,13 +1,14 @@
 -- The numbers of the tables say what the grammar's machine has there: kinds of words, symbols, rules, entries.
-use mathlib.Core.Path.{◌≡◌, refl, sym, ◌∙◌, ap, subst}
+use mathlib.Core.Path.{◌≡◌, refl, ◌∙◌, ap, subst}
 use mathlib.Core.List.{List, [], ◌∷◌, ◌++◌, map}
 use mathlib.Core.Option.{Option, none, some, some-injective, none-ne-some}
 use mathlib.Core.Bool.{Bool, true, false, cond, ◌&&◌}
-use Prim.Native.Nat.{ℕ, zero, suc, ◌+◌, ◌-◌, ◌*◌, ◌/◌, ◌%◌, ◌<◌, ◌≤◌}
+use Prim.Native.Nat.{ℕ, ◌+◌, ◌*◌, ◌/◌, ◌%◌, ◌<◌}
 use native.Mathlib.Numerals.{add-one}
 use native.Mathlib.Omega.{arith}
 use lib.Dec.{eqb, ltb}
 use borrow.Author.Tests.{ltb-true}
+use Rattle.language.specs.Levels.{deepest}
 use Rattle.language.specs.Words.{Word, place_word}
 use Rattle.language.proofs.Reading.Machine.{code, tag, cal, lev, ctx, Ctx, down, Sym, Act, Push, kid, deep, same, body, back, call, Rule, rule, rules}
 use Rattle.language.proofs.Reading.Machine.{pick, Entry, ent, opened, places, follow}
@@ -18,7 +19,15 @@ use Rattle.language.proofs.Reading.Machine
 use Rattle.scanning.specs.Scanning.{word_entry}
 use Rattle.parsing.specs.Codes
 use Rattle.parsing.specs.Codes.{sym_code, rule_word, packed_rule, rule_list, rule_starts, entry_word}
-use Rattle.parsing.specs.Steps.{sym_in, level_in, link_in, call_in, how_in, act_in, kind_in, found, rules_at, rule_for, level_opened, above, beside}
+use Rattle.parsing.specs.Steps.{sym_in, level_in, link_in, call_in, act_at, act_in, kind_in, how_at, how_in, push_by, push_in, beside_in, found, rules_at, rule_for}
+use Rattle.parsing.specs.Steps.{opened_by, level_opened, too_deep, above_by, above, beside_by, beside}
+use Rattle.std.specs.Prelude.{Some, None, unwrap_or}
+use Rattle.std.specs.Prelude.{Option as Maybe}
+use Rattle.parsing.specs.declared.rules.Rule.{Rule as CodedRule}
+use Rattle.parsing.specs.declared.rules.Act.{Act as CodedAct}
+use Rattle.parsing.specs.declared.rules.Act.TheVariants as act
+use Rattle.parsing.specs.declared.rules.How.{How as CodedHow}
+use Rattle.parsing.specs.declared.rules.How.TheVariants as how
 
 -- the kind of node that a rule writes
 abbrev pub act_kind : Act → ℕ
@@ -165,30 +174,82 @@ act_number_small (Machine.fork k) = omega arith
 act_number_small (Machine.turn k) = omega arith
 act_number_small (Machine.lead k) = omega arith
 
+-- a rule of the machine as the code has it
+abbrev pub rule_of : Rule → CodedRule
+rule_of ρ = record { bits = rule_word (some ρ) }
+
+abbrev pub rule_or_none : Option Rule → Maybe CodedRule
+rule_or_none none = None
+rule_or_none (some ρ) = Some (rule_of ρ)
+
+abbrev pub act_of : Act → CodedAct
+act_of Machine.skip = act.Skip
+act_of (Machine.leaf k) = act.Leaf
+act_of (Machine.fork k) = act.Fork
+act_of (Machine.turn k) = act.Turn
+act_of (Machine.lead k) = act.Lead
+
+act_numbered : (a : Act) → act_at (act_number a) ≡ act_of a
+act_numbered Machine.skip = refl
+act_numbered (Machine.leaf k) = refl
+act_numbered (Machine.fork k) = refl
+act_numbered (Machine.turn k) = refl
+act_numbered (Machine.lead k) = refl
+
+abbrev how_of : Option Push → Maybe CodedHow
+how_of none = None
+how_of (some (kid X)) = Some how.Kid
+how_of (some (deep X)) = Some how.Deep
+how_of (some (same X)) = Some how.Same
+how_of (some (body X)) = Some how.Body
+how_of (some (back X)) = Some how.Back
+how_of (some (call X)) = Some how.Call
+
+how_numbered : (ps : Option Push) → how_at (Codes.how_code ps) ≡ how_of ps
+how_numbered none = refl
+how_numbered (some (kid X)) = refl
+how_numbered (some (deep X)) = refl
+how_numbered (some (same X)) = refl
+how_numbered (some (body X)) = refl
+how_numbered (some (back X)) = refl
+how_numbered (some (call X)) = refl
+
+abbrev symbol_of : Option Sym → Maybe ℕ
+symbol_of none = None
+symbol_of (some X) = Some (sym_code X)
+
+symbol_numbered : (ns : Option Sym) → cond (eqb (Codes.flag_code ns) 0) None (Some (Codes.next_code ns)) ≡ symbol_of ns
+symbol_numbered none = refl
+symbol_numbered (some X) = refl
+
 module _ (k : ℕ) (a : Act) (ps : Option Push) (ns : Option Sym) where
-  pub no_zero : rule_word (some (rule k a ps ns)) ≡ 0 → ⊥
-  no_zero z = omega arith
+  how_read : how_in (rule_of (rule k a ps ns)) ≡ how_of ps
+  how_read =
+      let number : rule_word (some (rule k a ps ns)) / 16384 % 8 ≡ Codes.how_code ps = omega (arith, how_small ps, push_small ps, flag_small ns, next_small ns) in
+      ap how_at number ∙ how_numbered ps
 
-  how_of : how_in (rule_word (some (rule k a ps ns))) ≡ Codes.how_code ps
-  how_of = omega (arith, how_small ps, push_small ps, flag_small ns, next_small ns)
+  push_read : push_in (rule_of (rule k a ps ns)) ≡ push_by (how_of ps) (Codes.push_code ps)
+  push_read =
+      let number : rule_word (some (rule k a ps ns)) / 256 % 64 ≡ Codes.push_code ps = omega (arith, how_small ps, push_small ps, flag_small ns, next_small ns) in
+      ap (push_by (how_in (rule_of (rule k a ps ns)))) number ∙ ap (λ (h : Maybe CodedHow). push_by h (Codes.push_code ps)) how_read
 
-  push_of : rule_word (some (rule k a ps ns)) / 256 % 64 ≡ Codes.push_code ps
-  push_of = omega (arith, how_small ps, push_small ps, flag_small ns, next_small ns)
+  beside_read : beside_in (rule_of (rule k a ps ns)) ≡ symbol_of ns
+  beside_read =
+      let flag : rule_word (some (rule k a ps ns)) / 128 % 2 ≡ Codes.flag_code ns = omega (arith, how_small ps, push_small ps, flag_small ns, next_small ns) in
+      let next : rule_word (some (rule k a ps ns)) / 2 % 64 ≡ Codes.next_code ns = omega (arith, how_small ps, push_small ps, flag_small ns, next_small ns) in
+      rw (flag, next) (symbol_numbered ns)
 
-  flag_of : rule_word (some (rule k a ps ns)) / 128 % 2 ≡ Codes.flag_code ns
-  flag_of = omega (arith, how_small ps, push_small ps, flag_small ns, next_small ns)
+  pub act_read : act_kind a < 32 → act_in (rule_of (rule k a ps ns)) ≡ act_of a
+  act_read h =
+      let number : rule_word (some (rule k a ps ns)) / 4194304 % 8 ≡ act_number a =
+      omega (arith, act_coded a, act_number_small a, how_small ps, push_small ps, flag_small ns, next_small ns) in
+      ap act_at number ∙ act_numbered a
 
-  next_of : rule_word (some (rule k a ps ns)) / 2 % 64 ≡ Codes.next_code ns
-  next_of = omega (arith, how_small ps, push_small ps, flag_small ns, next_small ns)
-
-  pub act_of : act_kind a < 32 → act_in (rule_word (some (rule k a ps ns))) ≡ act_number a
-  act_of h = omega (arith, act_coded a, act_number_small a, how_small ps, push_small ps, flag_small ns, next_small ns)
-
-  pub kind_of : act_kind a < 32 → kind_in (rule_word (some (rule k a ps ns))) ≡ act_kind a
-  kind_of h = omega (arith, act_coded a, act_number_small a, how_small ps, push_small ps, flag_small ns, next_small ns)
+  pub kind_read : act_kind a < 32 → kind_in (rule_of (rule k a ps ns)) ≡ act_kind a
+  kind_read h = omega (arith, act_coded a, act_number_small a, how_small ps, push_small ps, flag_small ns, next_small ns)
 
 -- the first rule for a kind of word is the one that the machine picks
-found_picked : (k : ℕ) (rs : List Rule) → kinds_fit rs ≡ true → found k (map packed_rule rs) ≡ rule_word (pick k rs)
+found_picked : (k : ℕ) (rs : List Rule) → kinds_fit rs ≡ true → found k (map packed_rule rs) ≡ rule_or_none (pick k rs)
 unfolding found
 found_picked k [] h = refl
 found_picked k (rule j a ps ns ∷ rs) h =
@@ -199,7 +260,7 @@ found_picked k (rule j a ps ns ∷ rs) h =
     let word : packed_rule (rule j a ps ns) % 33554432 ≡ rule_word (some (rule j a ps ns)) = omega arith in
     rw (kind, word, found_picked k rs (and_right (ltb (act_kind a) 32) (kinds_fit rs) h)) (picked (eqb k j))
   where
-    picked : (b : Bool) → cond b (rule_word (some (rule j a ps ns))) (rule_word (pick k rs)) ≡ rule_word (cond b (some (rule j a ps ns)) (pick k rs))
+    picked : (b : Bool) → cond b (Some (rule_of (rule j a ps ns))) (rule_or_none (pick k rs)) ≡ rule_or_none (cond b (some (rule j a ps ns)) (pick k rs))
     picked true = refl
     picked false = refl
 
@@ -218,22 +279,21 @@ module _ (X : Sym) (q : ℕ) (u : Ctx) (hq : q < 65536) (hc : cal u < 65536) (hd
   call_of = omega arith
 
   -- the code finds the rule that the machine picks
-  pub rule_found : (x : Word) → place_word x < 65536 → rule_for (entry_word (ent X q u)) (word_entry x) ≡ rule_word (pick (tag x) (rules X))
+  pub rule_found : (x : Word) → place_word x < 65536 → rule_for (entry_word (ent X q u)) (word_entry x) ≡ rule_or_none (pick (tag x) (rules X))
   unfolding rule_for
   rule_found x hp =
       let kind : word_entry x / 65536 ≡ tag x = omega arith in
       rw (sym_of, kind, (known X).listed) (found_picked (tag x) (rules X) (known X).kinds)
 
-  -- the level that it opens
-  pub opened_found : (k : ℕ) (a : Act) (ps : Option Push) (ns : Option Sym)
-      → level_opened (rule_word (some (rule k a ps ns))) (entry_word (ent X q u)) ≡ opened ps u
-  unfolding level_opened
-  opened_found k a ps ns = rw (how_of k a ps ns, level_of, add-one (lev u)) (go ps)
+  -- whether the level that it opens is too deep
+  pub deep_found : (k : ℕ) (a : Act) (ps : Option Push) (ns : Option Sym)
+      → too_deep (level_opened (rule_of (rule k a ps ns)) (entry_word (ent X q u))) ≡ ltb deepest (opened ps u)
+  deep_found k a ps ns = rw (how_read k a ps ns) (go ps)
     where
-      go : (ps : Option Push) → cond (eqb (Codes.how_code ps) 2) (suc (lev u)) 0 ≡ opened ps u
+      go : (ps : Option Push) → too_deep (opened_by (how_of ps) (entry_word (ent X q u))) ≡ ltb deepest (opened ps u)
       go none = refl
       go (some (kid Y)) = refl
-      go (some (deep Y)) = refl
+      go (some (deep Y)) = rw (level_of, add-one (lev u)) refl
       go (some (same Y)) = refl
       go (some (body Y)) = refl
       go (some (back Y)) = refl
@@ -241,38 +301,31 @@ module _ (X : Sym) (q : ℕ) (u : Ctx) (hq : q < 65536) (hc : cal u < 65536) (hd
 
   -- and what it pushes above and beside what lies below
   module _ (k : ℕ) (a : Act) (ps : Option Push) (ns : Option Sym) (n : ℕ) where
-    pushed_above : (s : List Entry)
-        → above (rule_word (some (rule k a ps ns))) (entry_word (ent X q u)) n ++ map entry_word s ≡ map entry_word (places ps n q u s)
-    pushed_above s = rw (how_of k a ps ns, push_of k a ps ns, level_of, link_of, call_of, add-one (lev u)) (go ps)
+    pushed_above : (s : List Entry) → above (rule_of (rule k a ps ns)) (entry_word (ent X q u)) n ++ map entry_word s ≡ map entry_word (places ps n q u s)
+    pushed_above s = rw (push_read k a ps ns, how_read k a ps ns) (go ps)
       where
         go : (ps : Option Push)
-            → cond (eqb (Codes.how_code ps) 0) []
-            ((Codes.push_code ps * 1099511627776 + cond (eqb (Codes.how_code ps) 2) (suc (lev u)) (lev u) * 4294967296
-            + cond (eqb (Codes.how_code ps) 5) (cal u) (cond (eqb (Codes.how_code ps) 3) q (cond (eqb (Codes.how_code ps) 4) q 0)) * 65536
-            + cond (eqb (Codes.how_code ps) 6) n (cond (ltb (Codes.how_code ps) 4) (cal u) 0)) ∷ []) ++ map entry_word s
+            → above_by (push_by (how_of ps) (Codes.push_code ps)) (unwrap_or (opened_by (how_of ps) (entry_word (ent X q u))) (level_in (entry_word (ent X q u))))
+            (entry_word (ent X q u)) n ++ map entry_word s
             ≡ map entry_word (places ps n q u s)
         go none = refl
-        go (some (kid Y)) = refl
-        go (some (deep Y)) = refl
-        go (some (same Y)) = refl
-        go (some (body Y)) = refl
-        go (some (back Y)) = refl
-        go (some (call Y)) = refl
+        go (some (kid Y)) = rw (level_of, call_of) refl
+        go (some (deep Y)) = rw (level_of, call_of, add-one (lev u)) refl
+        go (some (same Y)) = rw (level_of, link_of, call_of) refl
+        go (some (body Y)) = rw (level_of, link_of) refl
+        go (some (back Y)) = rw (level_of, call_of) refl
+        go (some (call Y)) = rw level_of refl
 
-    pushed_beside : (s : List Entry)
-        → beside (rule_word (some (rule k a ps ns))) (entry_word (ent X q u)) n ++ map entry_word s ≡ map entry_word (follow ns n u s)
-    pushed_beside s = rw (flag_of k a ps ns, next_of k a ps ns, level_of, call_of) (go ns)
+    pushed_beside : (s : List Entry) → beside (rule_of (rule k a ps ns)) (entry_word (ent X q u)) n ++ map entry_word s ≡ map entry_word (follow ns n u s)
+    pushed_beside s = rw (beside_read k a ps ns) (go ns)
       where
-        go : (ns : Option Sym)
-            → cond (eqb (Codes.flag_code ns) 0) [] ((Codes.next_code ns * 1099511627776 + lev u * 4294967296 + n * 65536 + cal u) ∷ []) ++ map entry_word s
-            ≡ map entry_word (follow ns n u s)
+        go : (ns : Option Sym) → beside_by (symbol_of ns) (entry_word (ent X q u)) n ++ map entry_word s ≡ map entry_word (follow ns n u s)
         go none = refl
-        go (some Y) = refl
+        go (some Y) = rw (level_of, call_of) refl
 
     -- what the code leaves on the stack is the machine's stack after the rule
     pub pushed : (s : List Entry)
-        → above (rule_word (some (rule k a ps ns))) (entry_word (ent X q u)) n
-        ++ (beside (rule_word (some (rule k a ps ns))) (entry_word (ent X q u)) n ++ map entry_word s)
+        → above (rule_of (rule k a ps ns)) (entry_word (ent X q u)) n ++ (beside (rule_of (rule k a ps ns)) (entry_word (ent X q u)) n ++ map entry_word s)
         ≡ map entry_word (places ps n q u (follow ns n u s))
     pushed s =
-        ap (λ (l : List ℕ). above (rule_word (some (rule k a ps ns))) (entry_word (ent X q u)) n ++ l) (pushed_beside s) ∙ pushed_above (follow ns n u s)
+        ap (λ (l : List ℕ). above (rule_of (rule k a ps ns)) (entry_word (ent X q u)) n ++ l) (pushed_beside s) ∙ pushed_above (follow ns n u s)

@@ -2,9 +2,8 @@
 use mathlib.Core.Path.{◌≡◌, refl, sym, ◌∙◌, ap, subst}
 use mathlib.Core.List.{List, [], ◌∷◌, ◌++◌, map}
 use mathlib.Core.Option.{Option, none, some}
-use mathlib.Core.Bool.{Bool, true, false, cond}
+use mathlib.Core.Bool.{Bool, true, false}
 use Prim.Native.Nat.{ℕ, zero, suc, ◌+◌, ◌-◌, ◌<◌, ◌≤◌}
-use native.Mathlib.Numerals.{add-one}
 use native.Mathlib.Omega.{arith}
 use lib.Dec.{leb}
 use lib.ListN.{length, take, drop, set, length-map, length-set, length-append}
@@ -14,7 +13,7 @@ use Rattle.language.specs.Answers.{TOKENS, Result, fine, refuse, refusal_number}
 use Rattle.language.specs.Words.{Word, place_word, words_of, most}
 use Rattle.language.proofs.Reading.Reader
 use Rattle.language.proofs.Reading.Reader.{past, read}
-use Rattle.scanning.specs.Scanning.{word_entry, Ended, whole, halted, stored, scanned}
+use Rattle.scanning.specs.Scanning.{word_entry, whole, halted, stored, scanned}
 use Rattle.reading.specs.Outcomes.{told}
 
 -- as many words as there is room for stand in the table, behind those that stand there already

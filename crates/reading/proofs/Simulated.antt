@@ -1,28 +1,28 @@
 -- The machine on numbers does what the language's bounded machine does.
-use mathlib.Core.Path.{◌≡◌, refl, sym, ◌∙◌, ap}
+use mathlib.Core.Path.{◌≡◌, refl, ◌∙◌, ap}
 use mathlib.Core.List.{List, [], ◌∷◌, ◌++◌, map}
 use mathlib.Core.Option.{Option, none, some}
 use mathlib.Core.Bool.{Bool, true, false, cond}
 use Prim.Native.Nat.{ℕ, suc, ◌+◌, ◌%◌, ◌<◌, ◌≤◌}
 use native.Mathlib.Numerals.{add-one}
 use native.Mathlib.Omega.{arith}
-use lib.Dec.{eqb, ltb}
+use lib.Dec.{ltb}
 use lib.ListN.{length, drop}
-use borrow.Author.Tests.{ne_eqb, ltb-false}
+use borrow.Author.Tests.{ltb-false}
 use Rattle.language.specs.Answers.{SYNTAX, LEVEL, refusal_number}
 use Rattle.language.specs.Words.{Word, place_word}
 use Rattle.language.specs.Table.{Node}
 use Rattle.language.specs.Levels.{deepest}
 use Rattle.language.specs.Reading.{place_in}
-use Rattle.language.proofs.Reading.Machine.{tag, cal, lev, ctx, Ctx, Sym, Push, kid, deep, same, body, back, call, Rule, rule, rules, pick, Entry}
+use Rattle.language.proofs.Reading.Machine.{tag, cal, lev, Ctx, Sym, Push, kid, deep, same, body, back, call, Rule, rule, rules, pick, Entry}
 use Rattle.language.proofs.Reading.Machine.{ent, act, opened, places, follow}
 use Rattle.language.proofs.Reading.Bounds.{End, finished, wrong, too_deep, fire_b, bounded}
 use Rattle.language.proofs.Reading.Payload.{All}
 use Rattle.nodes.proofs.Proper.{Low}
 use Rattle.scanning.specs.Scanning.{word_entry, Ended, whole, halted}
-use Rattle.parsing.specs.Codes.{rule_word, entry_word}
+use Rattle.parsing.specs.Codes.{entry_word}
 use Rattle.parsing.specs.Steps.{rule_for, run}
-use Rattle.reading.proofs.Numbered.{act_kind, no_zero, act_of, kind_of, link_of, call_of, rule_found, opened_found, pushed, kind_fits}
+use Rattle.reading.proofs.Numbered.{act_kind, rule_of, rule_or_none, act_read, kind_read, link_of, call_of, rule_found, deep_found, pushed, kind_fits}
 use Rattle.reading.proofs.Trees.{word_in, AllFit, wrote_words, counted_words, one_node, fit_act}
 
 -- entries whose links have 16 bits, and whose level is none past the deepest
@@ -62,8 +62,8 @@ table_after t l = map word_in t ++ drop (length t) l
 
 module _ (text l : List ℕ) (x : Word) (ts : List Word) (X : Sym) (q : ℕ) (u : Ctx) (s : List Entry) (t : List Node)
     (hp : place_word x < 65536) (hq : q < 65536) (hc : cal u < 65536) (hd : lev u ≤ deepest) (n : AllFit t) (room : length t < length l) where
-  at_rule : (ρ : Option Rule) → pick (tag x) (rules X) ≡ ρ → rule_for (entry_word (ent X q u)) (word_entry x) ≡ rule_word ρ
-  at_rule ρ e = rule_found X q u hq hc (omega arith) x hp ∙ ap rule_word e
+  at_rule : (ρ : Option Rule) → pick (tag x) (rules X) ≡ ρ → rule_for (entry_word (ent X q u)) (word_entry x) ≡ rule_or_none ρ
+  at_rule ρ e = rule_found X q u hq hc (omega arith) x hp ∙ ap rule_or_none e
 
   refused_word : pick (tag x) (rules X) ≡ none
       → run (length text) (word_entry x ∷ map word_entry ts) (entry_word (ent X q u) ∷ map entry_word s) (table_after t l) (length t)
@@ -79,8 +79,7 @@ module _ (text l : List ℕ) (x : Word) (ts : List Word) (X : Sym) (q : ℕ) (u 
     deep_word b =
         rw (
           at_rule (some (rule j a ps ns)) picked,
-          ne_eqb _ 0 (no_zero j a ps ns),
-          opened_found X q u hq hc (omega arith) j a ps ns,
+          deep_found X q u hq hc (omega arith) j a ps ns,
           b,
           place_of_word x hp,
         ) refl
@@ -91,19 +90,18 @@ module _ (text l : List ℕ) (x : Word) (ts : List Word) (X : Sym) (q : ℕ) (u 
         (table_after (act a (place_word x) q u t) l) (length (act a (place_word x) q u t))
     unfolding run
     taken_word b =
-        let R = rule_word (some (rule j a ps ns)) in
+        let R = rule_of (rule j a ps ns) in
         let w = entry_word (ent X q u) in
         let hk : act_kind a < 32 = kind_fits (tag x) X (rule j a ps ns) picked in
         rw (
           at_rule (some (rule j a ps ns)) picked,
-          ne_eqb R 0 (no_zero j a ps ns),
-          opened_found X q u hq hc (omega arith) j a ps ns,
+          deep_found X q u hq hc (omega arith) j a ps ns,
           b,
           place_of_word x hp,
           add-one (length t),
           pushed X q u hq hc (omega arith) j a ps ns (suc (length t)) s,
-          wrote_words R w (place_word x) q u t l (link_of X q u hq hc (omega arith)) (call_of X q u hq hc (omega arith)) n room a hk (act_of j a ps ns hk) (kind_of j a ps ns hk),
-          counted_words R (place_word x) q u t a (act_of j a ps ns hk),
+          wrote_words R w (place_word x) q u t l (link_of X q u hq hc (omega arith)) (call_of X q u hq hc (omega arith)) n room a hk (act_read j a ps ns hk) (kind_read j a ps ns hk),
+          counted_words R (place_word x) q u t a (act_read j a ps ns hk),
         )
         refl
 

@@ -13,8 +13,9 @@ use Rattle.language.specs.Table.{Node, node, word_of}
 use Rattle.language.proofs.Reading.Machine.{sib, set_sib, link, add_leaf, add_fork, rekind, retype, with_block, set_block, Ctx, cal, Act, skip, leaf, fork, turn, lead, act}
 use Rattle.language.proofs.Reading.Machine
 use Rattle.language.proofs.Reading.Kinds.{length_link, length_retype, length_blocked, length_fork}
-use Rattle.parsing.specs.Steps.{act_in, kind_in, link_in, call_in, linked, retyped, blocked, mended, wrote, count}
-use Rattle.reading.proofs.Numbered.{act_kind, act_number}
+use Rattle.parsing.specs.Steps.{act_in, kind_in, link_in, call_in, linked, retyped, blocked, wrote, count}
+use Rattle.parsing.specs.declared.rules.Rule.{Rule as CodedRule}
+use Rattle.reading.proofs.Numbered.{act_kind, act_of}
 
 -- a node's word, its kind in 16 bits: that a kind never needs more is known where the tree is, not before
 abbrev pub word_in : Node → ℕ
@@ -205,11 +206,10 @@ lead_written p q c j t l hj n room = rw (← length_led c t) (fork_written p q j
 length_lead : (k p q c : ℕ) (t : List Node) → length (add_fork k p q (led c t)) ≡ suc (length t)
 length_lead k p q c t = length_fork k p q (led c t) ∙ ap suc (length_led c t)
 
-module _ (r w p q : ℕ) (u : Ctx) (t : List Node) (l : List ℕ) (is-link : link_in w ≡ q) (is_call : call_in w ≡ cal u) (n : AllFit t)
+module _ (r : CodedRule) (w p q : ℕ) (u : Ctx) (t : List Node) (l : List ℕ) (is-link : link_in w ≡ q) (is_call : call_in w ≡ cal u) (n : AllFit t)
     (room : length t < length l) where
-  pub wrote_words : (a : Act) → act_kind a < 32 → act_in r ≡ act_number a → kind_in r ≡ act_kind a
+  pub wrote_words : (a : Act) → act_kind a < 32 → act_in r ≡ act_of a → kind_in r ≡ act_kind a
       → wrote r w p (length t) (map word_in t ++ drop (length t) l) ≡ map word_in (act a p q u t) ++ drop (length (act a p q u t)) l
-  unfolding wrote mended
   wrote_words skip h e k = rw e refl
   wrote_words (leaf j) h e k = rw (e, k, is-link, length_leaf j p q t) (leaf_written p q j t l (omega arith) n room)
   wrote_words (fork j) h e k = rw (e, k, is-link, length_fork j p q t, add-one (length t)) (fork_written p q j t l (omega arith) n room)
@@ -218,8 +218,7 @@ module _ (r w p q : ℕ) (u : Ctx) (t : List Node) (l : List ℕ) (is-link : lin
       rw (e, k, is-link, is_call, led_words t (cal u) (drop (length t) l) n, length_lead j p q (cal u) t, add-one (length t))
       (lead_written p q (cal u) j t l (omega arith) n room)
 
-pub counted_words : (r p q : ℕ) (u : Ctx) (t : List Node) (a : Act) → act_in r ≡ act_number a → count r (length t) ≡ length (act a p q u t)
-unfolding count
+pub counted_words : (r : CodedRule) (p q : ℕ) (u : Ctx) (t : List Node) (a : Act) → act_in r ≡ act_of a → count r (length t) ≡ length (act a p q u t)
 counted_words r p q u t skip e = rw e refl
 counted_words r p q u t (leaf j) e = rw e (omega (arith, length_leaf j p q t))
 counted_words r p q u t (fork j) e = rw e (omega (arith, length_fork j p q t))

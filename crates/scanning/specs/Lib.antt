@@ -1,3 +1,3 @@
 pub mod Entries
 pub mod Scanning
-pub mod Turns
+pub mod Scans

@@ -1,10 +1,12 @@
 -- What the loop over the words of a text computes. Nothing here is believed: `Scanned` of reading ties it to the answer of reading.
-use Rattle.std.specs.Prelude.{cond, List, [], ◌∷◌, ℕ, ◌+◌, ◌*◌, eqb, leb, length, set}
+use Rattle.std.specs.Prelude as code
+use Rattle.std.specs.Prelude.{cond, List, [], ◌∷◌, ℕ, ◌+◌, ◌*◌, eqb, leb, length, set, Ok, Err}
 use Rattle.language.specs.Answers.{TOKENS, Result, fine, refuse, refusal_number}
 use Rattle.language.specs.Words.{Word, place_word}
 use Rattle.language.proofs.Reading.Machine.{tag}
-use Rattle.scanning.specs.declared.Scan.{Scan}
-use Rattle.scanning.specs.declared.Scan.TheVariants as scan
+use Rattle.words.specs.Next.{refusal_of, place_of}
+use Rattle.scanning.specs.declared.ScanError.{ScanError}
+use Rattle.scanning.specs.declared.ScanError.TheVariants as error
 
 -- a word of the text: its kind and its place
 abbrev pub word_entry : Word → ℕ
@@ -34,6 +36,7 @@ scanned (fine ws) l n over = stored ws l n over
 scanned (refuse r p) l n over = halted (refusal_number r) p
 
 -- what `read_words` answers, with the table that it leaves
-abbrev pub scan_ending : Scan → List ℕ → Ended
-scan_ending (scan.Words n) table = whole table n
-scan_ending (scan.Refused number place) table = halted number place
+abbrev pub scan_ending : code.Result ℕ ScanError → List ℕ → Ended
+scan_ending (Ok n) table = whole table n
+scan_ending (Err (error.Word e)) table = halted (refusal_number (refusal_of e)) (place_of e)
+scan_ending (Err (error.Tokens p)) table = halted (refusal_number TOKENS) p

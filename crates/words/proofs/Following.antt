@@ -10,11 +10,11 @@ use lib.IntN.{ℤ, pos, neg_ℤ}
 use lib.ListN.{length, drop, length-drop, drop_of_length-le}
 use lib.Seq.{drop-drop}
 use Rattle.language.specs.Syntax.{at}
-use Rattle.language.specs.Answers.{BYTE, NUMBER, Result, fine, refuse}
+use Rattle.language.specs.Answers.{Refusal, BYTE, NUMBER, Result, fine, refuse}
 use Rattle.language.specs.Numbers.{in_range}
 use Rattle.language.specs.Words.{Mark, Word, mark, number, named, place_word, is_sep, is_letter, is_digit, is_plain, stretch, symbols, key_words, mark_of}
 use Rattle.language.specs.Words.{Front, gap, word, bad, spelled, decimal, numeral, minus, symbol, front, before, words_from, words_of}
-use Rattle.words.specs.Next.{Next, no_more, next, stop, begun, next_in, next_from}
+use Rattle.words.specs.Next.{Next, no_more, next, stop, begun, next_in, next_from, refusal_of, place_of, error_for}
 use Rattle.words.proofs.Stretches.{stretch_short}
 
 -- ---- the words of a text are its next word and those after it
@@ -54,18 +54,28 @@ pub words_next : (text : List ℕ) (i : ℕ) → words_from (drop i text) 0 i �
 words_next text i = words_in_lem text (drop i text) i refl
 
 -- ---- where the next word stands
+-- a refusal of words: an error says which it is, and where
+abbrev pub Kept : Refusal → Type 0
+Kept r = (p : ℕ) → (refusal_of (error_for r p) ≡ r) × (place_of (error_for r p) ≡ p)
+
 -- what begins at place i with n bytes behind its first: a word has that place, and ends among them
 abbrev Among : (i n : ℕ) → Front → Type 0
 Among i n gap = Unit {0}
 Among i n (word w more) = (place_word w ≡ i) × (more ≤ n)
-Among i n (bad r) = Unit {0}
+Among i n (bad r) = Kept r
+
+byte_among : (i n : ℕ) → Among i n (bad BYTE)
+byte_among i n p = (refl, refl)
+
+number_among : (i n : ℕ) → Among i n (bad NUMBER)
+number_among i n p = (refl, refl)
 
 either : (i n : ℕ) (t : Bool) (f g : Front) → Among i n f → Among i n g → Among i n (cond t f g)
 either i n true f g p q = p
 either i n false f g p q = q
 
 numeral_among : (i n : ℕ) (z : ℤ) (more : ℕ) → more ≤ n → Among i n (numeral i z more)
-numeral_among i n z more h = either i n (in_range z) (word (number i z) more) (bad NUMBER) (refl, h) tt
+numeral_among i n z more h = either i n (in_range z) (word (number i z) more) (bad NUMBER) (refl, h) (number_among i n)
 
 spelled_among : (i n : ℕ) (w : List ℕ) → length w ≤ n + 1 → Among i n (spelled i w)
 spelled_among i n w h = by (mark_of key_words w)
@@ -78,17 +88,17 @@ spelled_among i n w h = by (mark_of key_words w)
     by (some m) = (refl, short)
 
 minus_among : (i : ℕ) (s : List ℕ) → Among i (length s) (minus i s)
-minus_among i [] = tt
+minus_among i [] = byte_among i 0
 minus_among i (b ∷ s) =
     either i (length (b ∷ s)) (eqb b 62) _ _ (refl, omega arith)
     (either i (length (b ∷ s)) (is_digit b) _ _
-    (numeral_among i (length (b ∷ s)) (neg_ℤ (pos (decimal 0 (stretch is_digit (b ∷ s))))) _ (stretch_short is_digit (b ∷ s))) tt)
+    (numeral_among i (length (b ∷ s)) (neg_ℤ (pos (decimal 0 (stretch is_digit (b ∷ s))))) _ (stretch_short is_digit (b ∷ s))) (byte_among i (length (b ∷ s))))
 
 symbol_among : (i n b : ℕ) → Among i n (symbol i b)
 symbol_among i n b = by (mark_of symbols (b ∷ []))
   where
     by : (o : Option Mark) → Among i n (elim o as (λ _. Front) [ none ↦ bad BYTE | some m ↦ word (mark m i) 0 ])
-    by none = tt
+    by none = byte_among i n
     by (some m) = (refl, omega arith)
 
 front_among : (i b : ℕ) (s : List ℕ) → Among i (length s) (front i b s)
@@ -98,18 +108,18 @@ front_among i b s =
     (either i (length s) (is_digit b) _ _ (numeral_among i (length s) (pos (decimal 0 (stretch is_digit (b ∷ s)))) _ (stretch_short is_digit s))
     (either i (length s) (eqb b 45) _ _ (minus_among i s) (symbol_among i (length s) b))))
 
--- the next word from place i on, in n bytes: it begins at i or after, has a byte at least, and ends among them
+-- the next word from place i on, in n bytes: it begins at i or after, has a byte at least, and ends among them; or what stops there
 abbrev pub Ahead : (i n : ℕ) → Next → Type 0
 Ahead i n no_more = Unit {0}
 Ahead i n (next w e) = (i ≤ place_word w) × (place_word w < e) × (e ≤ n)
-Ahead i n (stop r p) = (i ≤ p) × (p < n)
+Ahead i n (stop r p) = (i ≤ p) × (p < n) × Kept r
 
 begun_ahead : (i n : ℕ) (s : List ℕ) (f : Front) (a : Next) → n ≡ i + 1 + length s → Among i (length s) f → Ahead (i + 1) n a → Ahead i n (begun i f a)
 begun_ahead i n s gap no_more e p q = tt
 begun_ahead i n s gap (next w x) e p q = (omega (arith, q.0), q.1, q.2)
-begun_ahead i n s gap (stop r x) e p q = (omega (arith, q.0), q.1)
+begun_ahead i n s gap (stop r x) e p q = (omega (arith, q.0), q.1, q.2)
 begun_ahead i n s (word w more) a e p q = (omega (arith, p.0), omega (arith, p.0), omega (arith, p.1))
-begun_ahead i n s (bad r) a e p q = (omega arith, omega arith)
+begun_ahead i n s (bad r) a e p q = (omega arith, omega arith, p)
 
 ahead_in : (text l : List ℕ) (i : ℕ) → l ≡ drop i text → Ahead i (length text) (next_in l i)
 unfolding next_in

@@ -6,7 +6,7 @@ use mathlib.Core.Option.{Option, none, some}
 use Prim.Native.Nat.{ℕ, suc, ◌+◌, ◌-◌, ◌≤◌, ◌<◌}
 use native.Mathlib.Numerals.{add-one}
 use native.Mathlib.Omega.{arith}
-use lib.Dec.{T, leb, eqb}
+use lib.Dec.{T, eqb}
 use lib.IntN.{ℤ, pos, neg_ℤ}
 use lib.ListN.{length, drop, get_or, drop_of_length-le}
 use lib.Seq.{drop-cons, drop-drop}
@@ -14,57 +14,24 @@ use borrow.Author.Tests.{eq-eqb, ne_eqb}
 use Rattle.language.specs.Answers.{BYTE, NUMBER}
 use Rattle.language.specs.Numbers.{in_range}
 use Rattle.language.specs.Syntax.{at}
-use Rattle.language.specs.Words.{Mark, k_lbr, k_rbr, k_lpar, k_rpar, k_semi, k_colon, k_comma, k_star, k_arrow, k_const, k_fun, k_rec, k_var, k_proc, k_echo, k_set}
-use Rattle.language.specs.Words.{k_if, k_while, k_call, k_return, kif, kand, kor, kbool, kint, kvar, kadr, kvec, kalloc, knth, klen, kvset}
+use Rattle.language.specs.Words.{Mark, k_arrow}
 use Rattle.language.specs.Words.{mark, number, named, is_sep, is_letter, is_digit, is_plain, stretch, symbols, key_words, mark_of}
 use Rattle.language.specs.Words.{Front, gap, word, bad, spelled, decimal, numeral, minus, symbol, front, name_at}
-use Rattle.language.proofs.Reading.Machine.{code}
 use Rattle.numerals.specs.Written.{written, number_front, read_number}
-use Rattle.amounts.specs.declared.Amount.TheVariants.{Is, Range}
-use Rattle.numerals.specs.declared.Read.TheVariants as Read
+use Rattle.amounts.specs.declared.AmountError.TheVariants.{Range}
 use Rattle.numerals.proofs.Fronts.{at_front, digit_no_gap, digit_no_letter, number_digit, number_minus, minus_none}
-use Rattle.words.specs.Marks.{numbered}
-use Rattle.words.specs.Next.{Next, begun, next_in, next_from, told, found_from, amount_found, read_found}
-use Rattle.words.specs.declared.Found.TheVariants as F
+use Rattle.std.specs.Prelude as code
+use Rattle.std.specs.Prelude.{None, Some, Ok, Err, MatchOption, MatchResult, IsOkAnd}
+use Rattle.words.specs.declared.Mark as words
+use Rattle.words.specs.declared.Mark.TheVariants.{Arrow}
+use Rattle.words.specs.declared.Token.{Token}
+use Rattle.words.specs.declared.Token.TheVariants as token
+use Rattle.words.specs.declared.Word as found
+use Rattle.words.specs.declared.WordError.{WordError}
+use Rattle.words.specs.declared.WordError.TheVariants as error
+use Rattle.words.specs.Marks.{mark_for, marked}
+use Rattle.words.specs.Next.{Next, begun, next_in, next_from, Found, found_word, found_there, told, found_from, amount_found, read_found}
 use Rattle.words.proofs.Stretches.{name_some}
-
--- ---- marks are numbered from 1 on
-code_some : (m : Mark) → T (leb 1 (code m))
-code_some k_lbr = tt
-code_some k_rbr = tt
-code_some k_lpar = tt
-code_some k_rpar = tt
-code_some k_semi = tt
-code_some k_colon = tt
-code_some k_comma = tt
-code_some k_star = tt
-code_some k_arrow = tt
-code_some k_const = tt
-code_some k_fun = tt
-code_some k_rec = tt
-code_some k_var = tt
-code_some k_proc = tt
-code_some k_echo = tt
-code_some k_set = tt
-code_some k_if = tt
-code_some k_while = tt
-code_some k_call = tt
-code_some k_return = tt
-code_some kif = tt
-code_some kand = tt
-code_some kor = tt
-code_some kbool = tt
-code_some kint = tt
-code_some kvar = tt
-code_some kadr = tt
-code_some kvec = tt
-code_some kalloc = tt
-code_some knth = tt
-code_some klen = tt
-code_some kvset = tt
-
-zero_no_code : (m : Mark) (k : ℕ) → k ≡ code m → k ≡ 0 → ⊥
-zero_no_code m k e h = subst (λ (n : ℕ). T (leb 1 n)) (sym e ∙ h) (code_some m)
 
 -- ---- what begins at a place
 module _ (s : List ℕ) (i : ℕ) (h : i < length s) where
@@ -88,22 +55,24 @@ module _ (s : List ℕ) (i : ℕ) (h : i < length s) where
   told_here f e = ap told (next_here ∙ ap (λ (g : Front). begun i g after) e)
 
 -- ---- letters and digits
-module _ (i : ℕ) (n : Next) (w : List ℕ) (k e : ℕ) (key : k ≡ numbered (mark_of key_words w)) (ends : e ≡ i + 1 + (length w - 1)) where
-  spelled_name : k ≡ 0 → F.Name i e ≡ told (begun i (spelled i w) n)
-  spelled_name z = by (mark_of key_words w) key
-    where
-      by : (o : Option Mark) → k ≡ numbered o
-          → F.Name i e ≡ told (begun i (elim o as (λ _. Front) [ none ↦ word (named (at i w)) (length w - 1) | some m ↦ word (mark m i) (length w - 1) ]) n)
-      by none q = ap (F.Name i) ends
-      by (some m) q = absurd (zero_no_code m k q z)
+-- what a word of letters and digits is, by its mark
+abbrev pub token_of : code.Option words.Mark → Token
+token_of None = token.Name
+token_of (Some m) = token.Mark m
 
-  spelled_key : (k ≡ 0 → ⊥) → F.Mark k i e ≡ told (begun i (spelled i w) n)
-  spelled_key z = by (mark_of key_words w) key
-    where
-      by : (o : Option Mark) → k ≡ numbered o
-          → F.Mark k i e ≡ told (begun i (elim o as (λ _. Front) [ none ↦ word (named (at i w)) (length w - 1) | some m ↦ word (mark m i) (length w - 1) ]) n)
-      by none q = absurd (z q)
-      by (some m) q = rw (q, ends) refl
+token_from : (o : code.Option words.Mark) {t : Token} → MatchOption o (t ≡ token.Name) (λ m. t ≡ token.Mark m) → t ≡ token_of o
+token_from None h = h
+token_from (Some m) h = h
+
+spelled_told : (i : ℕ) (n : Next) (w : List ℕ) (e : ℕ) → e ≡ i + 1 + (length w - 1)
+    → found_word (token_of (marked (mark_of key_words w))) i e ≡ told (begun i (spelled i w) n)
+spelled_told i n w e ends = by (mark_of key_words w)
+  where
+    by : (o : Option Mark)
+        → found_word (token_of (marked o)) i e
+        ≡ told (begun i (elim o as (λ _. Front) [ none ↦ word (named (at i w)) (length w - 1) | some m ↦ word (mark m i) (length w - 1) ]) n)
+    by none = ap (found_word token.Name i) ends
+    by (some m) = ap (found_word (token.Mark (mark_for m)) i) ends
 
 differs : (p : ℕ → Bool) (b c : ℕ) → p b ≡ true → p c ≡ false → eqb b c ≡ false
 differs p b c t f = ne_eqb b c (λ q. absurd (subst T (sym t ∙ ap p q ∙ f) tt))
@@ -138,34 +107,30 @@ module _ (s : List ℕ) (i : ℕ) (h : i < length s) (t : is_letter (get_or s i 
   told_spelled : found_from s i ≡ told (begun i (spelled i (name_at s i)) (after s i h))
   told_spelled = told_here s i h (spelled i (name_at s i)) (front_letter i (get_or s i 0) (behind s i h) t ∙ ap (spelled i) (sym name_here))
 
-  -- a word that was read there, with its end and its number
-  module _ (w : List ℕ) (e k : ℕ) (is : w ≡ name_at s i) (ends : e ≡ i + length w) (key : k ≡ numbered (mark_of key_words w)) where
-    key_is : k ≡ numbered (mark_of key_words (name_at s i))
-    key_is = key ∙ ap (λ (v : List ℕ). numbered (mark_of key_words v)) is
-
-    end_is : e ≡ i + 1 + (length (name_at s i) - 1)
-    end_is = omega (arith, name_long, ap length is)
-
-    pub found_name : k ≡ 0 → F.Name i e ≡ found_from s i
-    found_name z = spelled_name i (after s i h) (name_at s i) k e key_is end_is z ∙ sym told_spelled
-
-    pub found_key : (k ≡ 0 → ⊥) → F.Mark k i e ≡ found_from s i
-    found_key z = spelled_key i (after s i h) (name_at s i) k e key_is end_is z ∙ sym told_spelled
+  -- a word that was read there, with its end and its mark
+  pub found_spelled : (w : List ℕ) (e : ℕ) (key : code.Option words.Mark) → w ≡ name_at s i → e ≡ i + length w → key ≡ marked (mark_of key_words w)
+      → {t : Token} → MatchOption key (t ≡ token.Name) (λ m. t ≡ token.Mark m) → found_word t i e ≡ found_from s i
+  found_spelled w e key is ends q x =
+      let v : e ≡ i + 1 + (length (name_at s i) - 1) = omega (arith, name_long, ap length is) in
+      ap (λ t. found_word t i e) (token_from key x)
+      ∙ ap (λ k. found_word (token_of k) i e) (q ∙ ap (λ (v : List ℕ). marked (mark_of key_words v)) is)
+      ∙ spelled_told i (after s i h) (name_at s i) e v ∙ sym told_spelled
 
 -- ---- numbers
-numeral_told : (i more : ℕ) (z : ℤ) (n : Next) → read_found i (Read.Number (i + 1 + more) (written z)) ≡ told (begun i (numeral i z more) n)
+numeral_told : (i more : ℕ) (z : ℤ) (n : Next)
+    → found_there (read_found i (Some (record { end = i + 1 + more; value = written z }))) ≡ told (begun i (numeral i z more) n)
 numeral_told i more z n = by (in_range z)
   where
-    by : (t : Bool) → amount_found i (i + 1 + more) (cond t (Is z) Range) ≡ told (begun i (cond t (word (number i z) more) (bad NUMBER)) n)
+    by : (t : Bool) → found_there (amount_found i (i + 1 + more) (cond t (Ok z) (Err Range))) ≡ told (begun i (cond t (word (number i z) more) (bad NUMBER)) n)
     by true = refl
     by false = refl
 
 module _ (s : List ℕ) (i : ℕ) (h : i < length s) where
-  pub found_digit : is_digit (get_or s i 0) ≡ true → read_found i (read_number s i) ≡ found_from s i
+  pub found_digit : is_digit (get_or s i 0) ≡ true → found_there (read_found i (read_number s i)) ≡ found_from s i
   found_digit d =
       let b = get_or s i 0 in
       let z = pos (decimal 0 (stretch is_digit (b ∷ behind s i h))) in
-      ap (read_found i) (at_front s i (split_here s i h) ∙ number_digit i b (behind s i h) d)
+      ap (λ r. found_there (read_found i r)) (at_front s i (split_here s i h) ∙ number_digit i b (behind s i h) d)
       ∙ numeral_told i (length (stretch is_digit (behind s i h))) z (after s i h)
       ∙ sym (told_here s i h _ (front_digit i b (behind s i h) d))
 
@@ -174,7 +139,7 @@ module _ (s : List ℕ) (i : ℕ) (h : i < length s) where
     told_minus : found_from s i ≡ told (begun i (minus i (behind s i h)) (after s i h))
     told_minus = told_here s i h (minus i (behind s i h)) (rw m refl)
 
-    pub found_lone : length s ≤ i + 1 → F.Refused 4 i ≡ found_from s i
+    pub found_lone : length s ≤ i + 1 → Err (error.Byte i) ≡ found_from s i
     found_lone l = sym (told_minus ∙ ap (λ (r : List ℕ). told (begun i (minus i r) (after s i h))) (drop_of_length-le s {i = i + 1} l))
 
     second : i + 1 < length s → behind s i h ≡ get_or s (i + 1) 0 ∷ drop (i + 1 + 1) s
@@ -187,33 +152,37 @@ module _ (s : List ℕ) (i : ℕ) (h : i < length s) where
           ∙ ap (λ (r : List ℕ). told (begun i (minus i r) (after s i h))) (second l)
           ∙ ap (λ (g : Front). told (begun i g (after s i h))) e
 
-      pub found_arrow : get_or s (i + 1) 0 ≡ 62 → F.Mark 9 i (i + 2) ≡ found_from s i
+      pub found_arrow : get_or s (i + 1) 0 ≡ 62 → found_word (token.Mark Arrow) i (i + 2) ≡ found_from s i
       found_arrow a =
           let n : i + 2 ≡ i + 1 + 1 = omega arith in
-          ap (F.Mark 9 i) n ∙ sym (told_second (word (mark k_arrow i) 1) (yes (eqb (get_or s (i + 1) 0) 62) _ _ (eq-eqb (get_or s (i + 1) 0) 62 a)))
+          ap (found_word (token.Mark Arrow) i) n ∙ sym (told_second (word (mark k_arrow i) 1) (yes (eqb (get_or s (i + 1) 0) 62) _ _ (eq-eqb (get_or s (i + 1) 0) 62 a)))
 
       read_minus : read_number s i ≡ number_front i (45 ∷ get_or s (i + 1) 0 ∷ drop (i + 1 + 1) s)
       read_minus = at_front s i (split_here s i h ∙ ap (λ (b : ℕ). b ∷ behind s i h) m ∙ ap (λ (r : List ℕ). 45 ∷ r) (second l))
 
-      pub found_minus : (get_or s (i + 1) 0 ≡ 62 → ⊥) → read_found i (read_number s i) ≡ found_from s i
-      found_minus a = ap (read_found i) read_minus ∙ by (is_digit (get_or s (i + 1) 0)) refl
+      pub found_minus : (get_or s (i + 1) 0 ≡ 62 → ⊥) → found_there (read_found i (read_number s i)) ≡ found_from s i
+      found_minus a = ap (λ r. found_there (read_found i r)) read_minus ∙ by (is_digit (get_or s (i + 1) 0)) refl
         where
           no-arrow : eqb (get_or s (i + 1) 0) 62 ≡ false
           no-arrow = ne_eqb (get_or s (i + 1) 0) 62 a
 
-          by : (t : Bool) → is_digit (get_or s (i + 1) 0) ≡ t → read_found i (number_front i (45 ∷ get_or s (i + 1) 0 ∷ drop (i + 1 + 1) s)) ≡ found_from s i
+          by : (t : Bool) → is_digit (get_or s (i + 1) 0) ≡ t → found_there (read_found i (number_front i (45 ∷ get_or s (i + 1) 0 ∷ drop (i + 1 + 1) s))) ≡ found_from s i
           by true d =
               let ds = stretch is_digit (get_or s (i + 1) 0 ∷ drop (i + 1 + 1) s) in
-              ap (read_found i) (number_minus i (get_or s (i + 1) 0) (drop (i + 1 + 1) s) d)
+              ap (λ r. found_there (read_found i r)) (number_minus i (get_or s (i + 1) 0) (drop (i + 1 + 1) s) d)
               ∙ numeral_told i (length ds) (neg_ℤ (pos (decimal 0 ds))) (after s i h)
               ∙ sym
               (told_second (numeral i (neg_ℤ (pos (decimal 0 ds))) (length ds))
               (no (eqb (get_or s (i + 1) 0) 62) _ _ no-arrow ∙ yes (is_digit (get_or s (i + 1) 0)) _ _ d))
           by false d =
-              ap (read_found i) (minus_none i (get_or s (i + 1) 0) (drop (i + 1 + 1) s) d)
+              ap (λ r. found_there (read_found i r)) (minus_none i (get_or s (i + 1) 0) (drop (i + 1 + 1) s) d)
               ∙ sym (told_second (bad BYTE) (no (eqb (get_or s (i + 1) 0) 62) _ _ no-arrow ∙ no (is_digit (get_or s (i + 1) 0)) _ _ d))
 
   -- ---- symbols
+  abbrev pub symbol_found : code.Option words.Mark → Found
+  symbol_found None = Err (error.Byte i)
+  symbol_found (Some m) = found_word (token.Mark m) i (i + 1)
+
   module _ (g : is_sep (get_or s i 0) ≡ false) (t : is_letter (get_or s i 0) ≡ false) (d : is_digit (get_or s i 0) ≡ false) (m : get_or s i 0 ≡ 45 → ⊥) where
     told_symbol : found_from s i ≡ told (begun i (symbol i (get_or s i 0)) (after s i h))
     told_symbol =
@@ -223,24 +192,12 @@ module _ (s : List ℕ) (i : ℕ) (h : i < length s) where
         ∙ no (is_digit (get_or s i 0)) _ _ d
         ∙ no (eqb (get_or s i 0) 45) _ _ (ne_eqb (get_or s i 0) 45 m))
 
-    module _ (k : ℕ) (is : k ≡ numbered (mark_of symbols (get_or s i 0 ∷ []))) where
-      pub found_none : k ≡ 0 → F.Refused 4 i ≡ found_from s i
-      found_none z = by (mark_of symbols (get_or s i 0 ∷ [])) is ∙ sym told_symbol
-        where
-          by : (o : Option Mark) → k ≡ numbered o
-              → F.Refused 4 i ≡ told (begun i (elim o as (λ _. Front) [ none ↦ bad BYTE | some n ↦ word (mark n i) 0 ]) (after s i h))
-          by none q = refl
-          by (some n) q = absurd (zero_no_code n k q z)
+    symbol_told : (o : Option Mark) → symbol_found (marked o) ≡ told (begun i (elim o as (λ _. Front) [ none ↦ bad BYTE | some n ↦ word (mark n i) 0 ]) (after s i h))
+    symbol_told none = refl
+    symbol_told (some n) = let e : i + 1 ≡ i + 1 + 0 = omega arith in ap (found_word (token.Mark (mark_for n)) i) e
 
-      pub found_symbol : (k ≡ 0 → ⊥) → F.Mark k i (i + 1) ≡ found_from s i
-      found_symbol z = by (mark_of symbols (get_or s i 0 ∷ [])) is ∙ sym told_symbol
-        where
-          by : (o : Option Mark) → k ≡ numbered o
-              → F.Mark k i (i + 1) ≡ told (begun i (elim o as (λ _. Front) [ none ↦ bad BYTE | some n ↦ word (mark n i) 0 ]) (after s i h))
-          by none q = absurd (z q)
-          by (some n) q =
-              let e : i + 1 ≡ i + 1 + 0 = omega arith in
-              ap (λ (j : ℕ). F.Mark j i (i + 1)) q ∙ ap (F.Mark (code n) i) e
+    pub found_symbol : (k : code.Option words.Mark) → k ≡ marked (mark_of symbols (get_or s i 0 ∷ [])) → symbol_found k ≡ found_from s i
+    found_symbol k is = ap symbol_found is ∙ symbol_told (mark_of symbols (get_or s i 0 ∷ [])) ∙ sym told_symbol
 
 -- ---- separators are passed over
 gaps_in : (l : List ℕ) (i : ℕ) → next_in l i ≡ next_in (drop (length (stretch is_sep l)) l) (i + length (stretch is_sep l))
@@ -264,6 +221,13 @@ module _ (s : List ℕ) (i e : ℕ) (is : e ≡ i + length (stretch is_sep (drop
       ∙ ap (λ (l : List ℕ). next_in l (i + length (stretch is_sep (drop i s)))) (drop-drop (length (stretch is_sep (drop i s))) i s)
       ∙ ap (next_from s) (sym is))
 
-  pub found_end : length s ≤ e → F.End ≡ found_from s i
+  pub found_end : length s ≤ e → Ok None ≡ found_from s i
   unfolding next_in
   found_end l = sym (ap told (sym past_gaps ∙ ap (λ (r : List ℕ). next_in r e) (drop_of_length-le s {i = e} l)))
+
+-- ---- a word or a refusal that stands there, as an answer
+pub answered_there : {P : found.Word → code.Option found.Word → Type 0} (r : code.Result found.Word WordError) (x : Found)
+    → MatchResult r (λ w. IsOkAnd x (P w)) (λ e. x ≡ Err e) → ((w : found.Word) (o : code.Option found.Word) → P w o → o ≡ Some w) → x ≡ found_there r
+answered_there (Ok w) (Ok o) h f = ap Ok (f w o h)
+answered_there {P = P} (Ok w) (Err d) h f = elim h [ ]
+answered_there (Err e) x h f = h

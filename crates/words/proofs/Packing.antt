@@ -9,9 +9,10 @@ use lib.Dec.{T, leb, eqb, leb→le}
 use borrow.Author.Tests.{leb-true, leb-false, eq-eqb, ne_eqb}
 use Rattle.language.specs.Bytes.{bytes_of, same_bytes}
 use Rattle.language.specs.Words.{Mark, Spelling, means, is_letter, is_digit, is_plain, stretch, key_words, mark_of}
-use Rattle.language.proofs.Reading.Machine.{code}
 use Rattle.language.proofs.Typing.Names.{same_names}
-use Rattle.words.specs.Marks.{numbered, pack, cap, number_packed}
+use Rattle.std.specs.Prelude as code
+use Rattle.words.specs.declared.Mark as words
+use Rattle.words.specs.Marks.{mark_for, marked, pack, cap, mark_packed}
 
 -- ---- tests
 both : (a b : Bool) → T (a && b) → T a × T b
@@ -97,11 +98,11 @@ eqb_kept n x h = by (leb n cap) refl
         let l = leb-false n cap e in
         ne_eqb (min n cap) x (λ q. omega arith) ∙ sym (ne_eqb n x (λ q. omega arith))
 
-found : (t : Bool) (m : Mark) (n : ℕ) (o : Option Mark) → n ≡ numbered o → cond t (code m) n ≡ numbered (cond t (some m) o)
+found : (t : Bool) (m : Mark) (n : code.Option words.Mark) (o : Option Mark) → n ≡ marked o → cond t (code.Some (mark_for m)) n ≡ marked (cond t (some m) o)
 found true m n o e = refl
 found false m n o e = e
 
-in_table : (w : List ℕ) → Bytes w → (ms : List Spelling) → T (tabled ms) → number_packed (min (pack 0 w) cap) ms ≡ numbered (mark_of ms w)
+in_table : (w : List ℕ) → Bytes w → (ms : List Spelling) → T (tabled ms) → mark_packed (min (pack 0 w) cap) ms ≡ marked (mark_of ms w)
 in_table w p [] t = refl
 in_table w p (means s m ∷ ms) t =
     let h = both (good (bytes_of s) && leb (pack 0 (bytes_of s) + 1) cap) (tabled ms) t in
@@ -137,5 +138,5 @@ plain_bytes (b ∷ w) e = by (is_plain b) refl e (plain_bytes w)
     by false f e' more = let z : ◌≡◌ {A = ℕ} 0 1 = cc in absurd (omega arith)
 
 -- a word of letters and digits is a key word exactly where its number is in the table
-pub key_word_lem : (w : List ℕ) → stretch is_plain w ≡ w → number_packed (min (pack 0 w) cap) key_words ≡ numbered (mark_of key_words w)
+pub key_word_lem : (w : List ℕ) → stretch is_plain w ≡ w → mark_packed (min (pack 0 w) cap) key_words ≡ marked (mark_of key_words w)
 key_word_lem w e = in_table w (plain_bytes w e) key_words tt

@@ -1,3 +1,3 @@
 pub mod Marks
 pub mod Next
-pub mod Sorts
+pub mod Tests

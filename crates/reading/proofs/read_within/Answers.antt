@@ -2,8 +2,7 @@ use mathlib.Core.Path.{◌≡◌, ◌∙◌, ap, sym}
 use mathlib.Core.List.{List}
 use Prim.Native.Nat.{ℕ}
 use Rattle.language.proofs.Reading.Reader.{read}
-use Rattle.parsing.specs.Outcomes.{ending}
-use Rattle.reading.specs.Outcomes.{told, zeros}
+use Rattle.reading.specs.Outcomes.{ending, told, zeros}
 use Rattle.reading.proofs.Lefts.{clears, clears_lent, outcome_is, tree_is}
 use Rattle.std.proofs.Common.{rules}
 use Rattle.reading.proofs.read_within.Goals as goal

@@ -1,13 +1,13 @@
--- One reader goes through the text: so far the table and the turn hold what the words before the reader's place come to.
-use Rattle.std.proofs.Common.{◌≡◌}
-use Rattle.scanning.proofs.Turns.{Holds, remaining}
+-- One reader goes through the text: so far the table and the scan hold what the words before the reader's place come to.
+use Rattle.std.proofs.Common.{◌≡◌, ◌-◌, length}
+use Rattle.scanning.proofs.Turns.{Holds}
 use Rattle.scanning.proofs.read_words.Given as goal
 
-abbrev pub invariant-loop-turn : goal.invariant-loop-turn
-invariant-loop-turn l = record {
+abbrev pub invariant-loop-word : goal.invariant-loop-word
+invariant-loop-word l = record {
   same_text : l.reader.text.now ≡ l.text;
-  holds : Holds l.text l.initial.table l.reader.at l.table l.turn;
+  holds : Holds l.text l.initial.table l.reader.at l.table l.scan.words l.scan.over;
 }
 
-abbrev pub decreases-loop-turn : goal.decreases-loop-turn
-decreases-loop-turn l = remaining l.text l.reader.at l.turn
+abbrev pub decreases-loop-word : goal.decreases-loop-word
+decreases-loop-word l = length l.text - l.reader.at

@@ -1,5 +1,5 @@
 use mathlib.Core.Path.{ap, ◌∙◌}
-use Rattle.words.specs.Next.{read_found}
+use Rattle.words.specs.Next.{found_there, read_found}
 use Rattle.words.proofs.Fronts.{found_lone, found_arrow, found_minus}
 use Rattle.words.proofs.minus_at.Goals as goal
 
@@ -12,5 +12,5 @@ returns-then-text-second-eq62 c =
 
 pub returns : goal.returns
 returns c =
-    c.number_found.ensures ∙ ap (read_found c.args.start) c.number_at.ensures
+    ap found_there c.number_found.ensures ∙ ap (λ n. found_there (read_found c.args.start n)) c.number_at.ensures
     ∙ found_minus c.args.text.now c.args.start c.requires.start_in_bounds c.requires.start_value c.if-text-second.false c.if-text-second-eq62.false
