@@ -6,44 +6,36 @@ ghost use Rattle.judge.specs.Rules.{looped_note, either_note, return_rule, follo
 use super::rules::REFUSED;
 use nodes::{child_at, next_at};
 use tables::entry;
-use types::{ALWAYS, LEVELS, MAY, returned_type, same_type};
-
-// The notes of types are below those of references.
-const REFERENCES: u64 = 131072;
+use types::{ALWAYS, LEVELS, MAY, REFERENCES, returned_type, same_type};
 
 // What may be returned where `f` is: always becomes may.
+#[tactic(auto, using(std::proofs::lemmas::Bool::Decides::nat_tests), unfolding(judge::specs::Rules::looped_note))]
 pub fn looped_note(f: u64) -> u64
     ensures { result ≡ looped_note f }
 {
-    if f < ALWAYS {
-        return f;
-    }
-    f - ALWAYS + MAY
+    if f < ALWAYS { f } else { f - ALWAYS + MAY }
 }
 
 // IF, whose blocks return as `f` and `h` say: it always returns where both do.
+#[tactic(auto, using(std::proofs::lemmas::Bool::Decides::nat_tests), unfolding(judge::specs::Rules::either_note))]
 pub fn either_note(tree: &[u64], notes: &[u64], f: u64, h: u64) -> u64
     ensures { result ≡ either_note tree.now notes.now f h }
 {
     if f < MAY {
-        return looped_note(h);
+        looped_note(h)
+    } else if h < MAY {
+        looped_note(f)
+    } else if !same_type(tree, notes, returned_type(f), returned_type(h), LEVELS) {
+        REFUSED
+    } else if h < ALWAYS {
+        looped_note(f)
+    } else {
+        f
     }
-    if h < MAY {
-        return looped_note(f);
-    }
-    if !same_type(tree, notes, returned_type(f), returned_type(h), LEVELS) {
-        return REFUSED;
-    }
-    if f < ALWAYS {
-        return f;
-    }
-    if h < ALWAYS {
-        return looped_note(f);
-    }
-    f
 }
 
 // RETURN: always what the expression `y` has.
+#[tactic(auto, using(std::proofs::lemmas::Bool::Decides::nat_tests), unfolding(judge::specs::Rules::return_rule))]
 pub fn return_rule(notes: &[u64], y: u64) -> u64
     ensures { result ≡ return_rule notes.now y }
 {
@@ -51,39 +43,31 @@ pub fn return_rule(notes: &[u64], y: u64) -> u64
 }
 
 // The statement `i`, whose own rule gives `own`: what always returns stands last.
+#[tactic(auto, using(std::proofs::lemmas::Bool::Decides::nat_tests), unfolding(judge::specs::Rules::followed))]
 pub fn last_returns(tree: &[u64], i: u64, own: u64) -> u64
     ensures { result ≡ followed tree.now i own }
 {
-    if next_at(tree, i) == 0 {
-        return own;
+    if next_at(tree, i) == 0 || own < ALWAYS {
+        own
+    } else {
+        REFUSED
     }
-    if own < ALWAYS {
-        return own;
-    }
-    REFUSED
 }
 
 // What may be returned so far (0: nothing) goes with what `f` says behind it.
+#[tactic(auto, using(std::proofs::lemmas::Bool::Decides::nat_tests), unfolding(judge::specs::Rules::goes_with))]
 fn goes_with(tree: &[u64], notes: &[u64], so_far: u64, f: u64) -> bool
     ensures { result ≡ goes_with tree.now notes.now so_far f }
 {
-    if so_far == 0 {
-        return true;
-    }
-    if f < MAY {
-        return false;
-    }
-    same_type(tree, notes, returned_type(f), returned_type(so_far), LEVELS)
+    so_far == 0
+        || MAY <= f && same_type(tree, notes, returned_type(f), returned_type(so_far), LEVELS)
 }
 
 // A command that is not the last, which returns as `f` says: it goes with what may be returned before it, and what may be returned by then.
 fn goes_on(tree: &[u64], notes: &[u64], so_far: u64, f: u64) -> bool
     ensures { result ≡ pick (ltb f 196608) (λ _. true) (λ _. goes_with tree.now notes.now so_far f) }
 {
-    if f < MAY {
-        return true;
-    }
-    goes_with(tree, notes, so_far, f)
+    f < MAY || goes_with(tree, notes, so_far, f)
 }
 
 fn seen(so_far: u64, f: u64) -> u64
@@ -98,39 +82,34 @@ fn flow_from(tree: &[u64], notes: &[u64], first: u64) -> u64
 {
     let mut y = first;
     let mut so_far: u64 = 0;
-    let mut left = tree.len();
-    while left != 0 {
+    for _step in 0..tree.len() {
         let f = entry(notes, y);
         let v = next_at(tree, y);
         if v == 0 {
-            if goes_with(tree, notes, so_far, f) {
-                return f;
-            }
-            return REFUSED;
+            return if goes_with(tree, notes, so_far, f) {
+                f
+            } else {
+                REFUSED
+            };
         }
         if !goes_on(tree, notes, so_far, f) {
             return REFUSED;
         }
         so_far = seen(so_far, f);
         y = v;
-        left = left - 1;
     }
     REFUSED
 }
 
 // The block `i`, which returns as `flow` says: the root never returns.
+#[tactic(auto, using(std::proofs::lemmas::Bool::Decides::nat_tests), unfolding(judge::specs::Rules::program_rule))]
 fn program_rule(i: u64, flow: u64) -> u64
     ensures { result ≡ program_rule i flow }
 {
-    if i == 0 {
-        if flow < MAY {
-            return flow;
-        }
-        return REFUSED;
-    }
-    flow
+    if i == 0 && flow >= MAY { REFUSED } else { flow }
 }
 
+#[tactic(auto, using(std::proofs::lemmas::Bool::Decides::nat_tests), unfolding(judge::specs::Rules::block_rule))]
 pub fn block_rule(tree: &[u64], notes: &[u64], i: u64) -> u64
     ensures { result ≡ block_rule tree.now notes.now i }
 {

@@ -11,3 +11,4 @@ pub mod Rows
 pub mod Numbered
 pub mod Bytes
 pub mod Nine
+pub mod Found

@@ -3,3 +3,4 @@ pub mod Written
 pub mod Forests
 pub mod Trees
 pub mod Names
+pub mod Meanings

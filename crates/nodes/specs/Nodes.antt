@@ -1,5 +1,5 @@
 -- A node of the tree table, document 01: kind, place, first child and next sibling, 16 bits each, most significant first.
-use Rattle.std.specs.Prelude.{ℕ, ◌/◌, ◌%◌, List, get_or}
+use Rattle.std.specs.Prelude.{ℕ, ◌/◌, ◌%◌, zero, suc, List, get_or, Option, Some, None}
 use Rattle.nodes.specs.declared.Node.{Node}
 
 -- the node number i of some tree words; past their end it is all zeros
@@ -11,3 +11,8 @@ node_at tree i =
       child = get_or tree i 0 / 65536 % 65536;
       next = get_or tree i 0 % 65536;
     }
+
+-- a node by its number, where 0 stands for none
+unfoldable pub some_node : ℕ → Option ℕ
+some_node zero = None
+some_node (suc i) = Some (suc i)

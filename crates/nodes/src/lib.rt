@@ -2,17 +2,27 @@
 
 #![tactic(auto)]
 
-ghost use Rattle.std.specs.Prelude.{◌≡◌, cond};
+pub mod kinds; // kinds.rt: the kinds of nodes, by name
+
+ghost use Rattle.std.specs.Prelude.{◌≡◌, IfSome, IsNone, slice_index};
 ghost use Rattle.language.specs.Bytes.{same_bytes};
 ghost use Rattle.language.specs.Words.{name_at};
 ghost use Rattle.language.specs.Names.{meaning};
-ghost use Rattle.nodes.specs.Nodes.{node_at};
+ghost use Rattle.nodes.specs.Nodes.{node_at, some_node};
 ghost use Rattle.nodes.specs.Names.{meaning_no};
+ghost use Rattle.nodes.specs.Meanings.{number, number_or_zero, written, BeginsNone};
 
 use tables::entry;
 
+// A word's four fields have 16 bits each: a field is what is above the ones below it, cut to its size.
+const FIELD: u64 = 65536;
+
+const ABOVE_CHILD: u64 = 4294967296;
+
+const ABOVE_PLACE: u64 = 281474976710656;
+
 // A node's kind, its place in the text, and the numbers of its first child and next sibling (0: none).
-#[derive(Clone, Copy)]
+#[derive(Clone, Copy, Debug, PartialEq, Eq)]
 pub struct Node {
     pub kind: u64,
     pub place: u64,
@@ -25,98 +35,120 @@ pub fn node_at(tree: &[u64], i: u64) -> Node
 {
     let word = entry(tree, i);
     Node {
-        kind: word / 281474976710656,
-        place: word / 4294967296 % 65536,
-        child: word / 65536 % 65536,
-        next: word % 65536,
+        kind: word / ABOVE_PLACE,
+        place: word / ABOVE_CHILD % FIELD,
+        child: word / FIELD % FIELD,
+        next: word % FIELD,
     }
+}
+
+// A node by its number, as links and tables have it: 0 stands for none.
+pub fn some_node(i: u64) -> Option<u64>
+    ensures { result ≡ some_node i }
+{
+    (i != 0).then_some(i)
 }
 
 pub fn kind_at(tree: &[u64], i: u64) -> u64
     ensures { result ≡ (node_at tree.now i).kind }
 {
-    entry(tree, i) / 281474976710656
+    node_at(tree, i).kind
 }
 
 pub fn place_at(tree: &[u64], i: u64) -> u64
     ensures { result ≡ (node_at tree.now i).place }
 {
-    entry(tree, i) / 4294967296 % 65536
+    node_at(tree, i).place
 }
 
 pub fn child_at(tree: &[u64], i: u64) -> u64
     ensures { result ≡ (node_at tree.now i).child }
 {
-    entry(tree, i) / 65536 % 65536
+    node_at(tree, i).child
 }
 
 pub fn next_at(tree: &[u64], i: u64) -> u64
     ensures { result ≡ (node_at tree.now i).next }
 {
-    entry(tree, i) % 65536
-}
-
-// Are these the same bytes?
-fn same_bytes(a: &[u8], b: &[u8]) -> bool
-    ensures { result ≡ same_bytes a.now b.now }
-{
-    if a.len() != b.len() {
-        return false;
-    }
-    let mut i = 0;
-    while i < a.len() {
-        if a[i] != b[i] {
-            return false;
-        }
-        i += 1;
-    }
-    true
+    node_at(tree, i).next
 }
 
 // Have the names at the places `p` and `q` the same bytes?
 pub fn same_name(text: &[u8], p: u64, q: u64) -> bool
     ensures { result ≡ same_bytes (name_at text.now p) (name_at text.now q) }
 {
-    same_bytes(
-        words::name_at(text, p as usize),
-        words::name_at(text, q as usize),
-    )
+    words::name_at(text, p as usize) == words::name_at(text, q as usize)
 }
 
-// The number `k` for a name that is these bytes, 0 for any other.
-fn number_if(bytes: &[u8], name: &[u8], k: u64) -> u64
-    ensures { result ≡ cond (same_bytes bytes.now name.now) k 0 }
+// What a name is that cannot be bound: one of the nine, by the number that the language gives it.
+#[derive(Clone, Copy, Debug, PartialEq, Eq)]
+pub enum Meaning {
+    True = 1,
+    False = 2,
+    Not = 3,
+    Eq = 4,
+    Lt = 5,
+    Add = 6,
+    Sub = 7,
+    Mul = 8,
+    Div = 9,
+}
+
+impl Meaning {
+    pub fn number(self) -> u64
+        ensures { result ≡ number self }
+    {
+        self as u64
+    }
+
+    // How a text writes it.
+    fn bytes(self) -> &'static [u8]
+        ensures { result.now ≡ written self }
+    {
+        match self {
+            Meaning::True => b"true",
+            Meaning::False => b"false",
+            Meaning::Not => b"not",
+            Meaning::Eq => b"eq",
+            Meaning::Lt => b"lt",
+            Meaning::Add => b"add",
+            Meaning::Sub => b"sub",
+            Meaning::Mul => b"mul",
+            Meaning::Div => b"div",
+        }
+    }
+}
+
+// The only one of the nine that begins with the byte, if one does.
+fn beginning(byte: u8) -> Option<Meaning>
+    ensures some { IfSome result (λ m. slice_index (written m) 0 ≡ byte) }
+    ensures none { IsNone result → BeginsNone byte }
 {
-    if same_bytes(bytes, name) {
-        return k;
+    match byte {
+        b't' => Some(Meaning::True),
+        b'f' => Some(Meaning::False),
+        b'n' => Some(Meaning::Not),
+        b'e' => Some(Meaning::Eq),
+        b'l' => Some(Meaning::Lt),
+        b'a' => Some(Meaning::Add),
+        b's' => Some(Meaning::Sub),
+        b'm' => Some(Meaning::Mul),
+        b'd' => Some(Meaning::Div),
+        _ => None,
     }
-    0
 }
 
-// Which of the nine names these bytes are: 1 to 9, and 0 for any other name. No two of them begin alike, so that one is compared at most.
-fn meaning_of(name: &[u8]) -> u64
-    ensures { result ≡ meaning_no (meaning name.now) }
+// Which of the nine names these bytes are, if they are one. No two of them begin alike, so that one is compared at most.
+fn meaning_of(name: &[u8]) -> Option<Meaning>
+    ensures { number_or_zero result ≡ meaning_no (meaning name.now) }
 {
-    if name.len() == 0 {
-        return 0;
-    }
-    match name[0] {
-        b't' => number_if(b"true", name, 1),
-        b'f' => number_if(b"false", name, 2),
-        b'n' => number_if(b"not", name, 3),
-        b'e' => number_if(b"eq", name, 4),
-        b'l' => number_if(b"lt", name, 5),
-        b'a' => number_if(b"add", name, 6),
-        b's' => number_if(b"sub", name, 7),
-        b'm' => number_if(b"mul", name, 8),
-        b'd' => number_if(b"div", name, 9),
-        _ => 0,
-    }
+    let meaning = beginning(*name.first()?)?;
+    (meaning.bytes() == name).then_some(meaning)
 }
 
-// Which of the nine names stands at the place `p`: 1 to 9, and 0 for any other name.
-pub fn meaning_at(text: &[u8], p: u64) -> u64
-    ensures { result ≡ meaning_no (meaning (name_at text.now p)) }
+// Which of the nine names stands at the place `p`, if one does.
+pub fn meaning_at(text: &[u8], p: u64) -> Option<Meaning>
+    ensures { number_or_zero result ≡ meaning_no (meaning (name_at text.now p)) }
 {
     meaning_of(words::name_at(text, p as usize))
 }

@@ -1,5 +1,5 @@
--- One more round of each loop's definition, over the code's `k - 1`, one more level of the comparison, and a note that says no type.
-use Prim.Native.Nat.{ℕ, zero, suc, ◌-◌, ◌<◌}
+-- One more round of each loop's definition, where `i` rounds of `n` are over, and one more level of the comparison.
+use Prim.Native.Nat.{ℕ, zero, suc, ◌+◌, ◌-◌, ◌<◌, ◌≤◌}
 use mathlib.Core.Path.{◌≡◌, refl, ap}
 use mathlib.Core.List.{List}
 use mathlib.Core.Bool.{Bool, false}
@@ -7,16 +7,32 @@ use native.Mathlib.Numerals.{sub-one}
 use native.Mathlib.Omega.{arith}
 use lib.ListN.{length}
 use lib.Dec.{eqb}
-use borrow.Author.Tests.{lt-ltb}
 use Rattle.judge.specs.Scopes.{pick, child_at}
-use Rattle.judge.specs.Types.{same_parts, same, is_fun, is_vec, note_kind, parts_of, fits_from, returned}
+use Rattle.judge.specs.Types.{same_parts, same, is_fun, is_vec, note_kind, parts_of, fits_from}
 
-pub fits_more : (k : ℕ) → (k ≡ 0 → ⊥) → (t N : List ℕ) (y z : ℕ) → fits_from t N k y z ≡ fits_from t N (suc (k - 1)) y z
-fits_more k h t N y z = ap (λ j. fits_from t N j y z) (omega arith)
+left : (n i : ℕ) → i < n → n - i ≡ suc (n - (i + 1))
+left n i h = omega arith
 
-pub parts_more : (k : ℕ) → (k ≡ 0 → ⊥) → (f : ℕ → ℕ → Bool) (t N : List ℕ) (a b y z : ℕ) →
-    same_parts f t N a b k y z ≡ same_parts f t N a b (suc (k - 1)) y z
-parts_more k h f t N a b y z = ap (λ j. same_parts f t N a b j y z) (omega arith)
+over : (n i : ℕ) → n ≤ i → n - i ≡ 0
+over n i h = omega arith
+
+pub rounds_all : (n : ℕ) → n - 0 ≡ n
+rounds_all n = omega arith
+
+pub fits_more : (n i : ℕ) → i < n → (t N : List ℕ) (y z : ℕ) → fits_from t N (n - i) y z ≡ fits_from t N (suc (n - (i + 1))) y z
+fits_more n i h t N y z = ap (λ j. fits_from t N j y z) (left n i h)
+
+pub fits_end : (n i : ℕ) → n ≤ i → (t N : List ℕ) (y z : ℕ) → fits_from t N (n - i) y z ≡ 0
+unfolding fits_from
+fits_end n i h t N y z = ap (λ j. fits_from t N j y z) (over n i h)
+
+pub parts_more : (n i : ℕ) → i < n → (f : ℕ → ℕ → Bool) (t N : List ℕ) (a b y z : ℕ) →
+    same_parts f t N a b (n - i) y z ≡ same_parts f t N a b (suc (n - (i + 1))) y z
+parts_more n i h f t N a b y z = ap (λ j. same_parts f t N a b j y z) (left n i h)
+
+pub parts_end : (n i : ℕ) → n ≤ i → (f : ℕ → ℕ → Bool) (t N : List ℕ) (a b y z : ℕ) → same_parts f t N a b (n - i) y z ≡ false
+unfolding same_parts
+parts_end n i h f t N a b y z = ap (λ j. same_parts f t N a b j y z) (over n i h)
 
 -- what spells neither a function's type nor a block's has no parts
 pub same_base : (l : ℕ) (t N : List ℕ) (a b : ℕ) {j k : ℕ} {f v : Bool} → j ≡ note_kind t a → k ≡ note_kind t b →
@@ -35,8 +51,3 @@ pub same_more : (l : ℕ) → (l ≡ 0 → ⊥) → (t N : List ℕ) (a b : ℕ)
 unfolding same
 same_more zero h t N a b = absurd (h refl)
 same_more (suc l) h t N a b = rw sub-one
-
--- what is below the notes of those that may return says no type
-pub returned_none : (f : ℕ) → f < 196608 → 0 ≡ returned f
-unfolding returned
-returned_none f h = rw (lt-ltb f 327680 (omega (arith, h))) (omega (arith, h))

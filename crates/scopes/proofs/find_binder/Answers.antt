@@ -1,36 +1,32 @@
-use mathlib.Core.Path.{◌≡◌, refl}
-use lib.ListN.{length}
 use borrow.Author.Tests.{eq-eqb, ne_eqb}
 use Rattle.judge.specs.Names.{same_name}
 use Rattle.judge.specs.Scopes.{find_from}
-use Rattle.scopes.proofs.Laws.{find_more}
-use Rattle.std.proofs.Common.{rules}
+use Rattle.nodes.specs.Nodes.{some_node}
+use Rattle.nodes.proofs.Found.{some_is}
+use Rattle.scopes.proofs.Laws.{find_more, find_end}
 use Rattle.scopes.proofs.find_binder.Goals as goal
 
-pub loop-left-init : goal.loop-left-init
-loop-left-init c = refl
-
 pub returns-then-e-eq0 : goal.returns-then-e-eq0
-unfolding find_from same_name
-returns-then-e-eq0 c = rw (← c.loop-left.invariant, find_more _ c.loop-left-test.true, eq-eqb _ 0 c.if-e-eq0.true)
+unfolding find_from some_node
+returns-then-e-eq0 c = rw (← c.loop-step.invariant, find_more _ _ c.loop-step-test.true, eq-eqb _ 0 c.if-e-eq0.true)
 
 pub returns-then-same_name : goal.returns-then-same_name
 unfolding find_from same_name
 returns-then-same_name c =
     rw (
-      ← c.loop-left.invariant,
-      find_more _ c.loop-left-test.true,
+      ← c.loop-step.invariant,
+      find_more _ _ c.loop-step-test.true,
       ne_eqb _ 0 c.if-e-eq0.false,
       ← c.binder_place.ensures,
       ← c.same_name.ensures,
       c.if-same_name.true,
-    )
+    ) (some_is _ c.if-e-eq0.false)
 
-pub loop-left-preserved : goal.loop-left-preserved
+pub loop-step-preserved : goal.loop-step-preserved
 unfolding find_from same_name
-loop-left-preserved c =
-    rw (← c.loop-left.invariant) (rw (
-      find_more _ c.loop-left-test.true,
+loop-step-preserved c =
+    rw (← c.loop-step.invariant) (rw (
+      find_more _ _ c.loop-step-test.true,
       ne_eqb _ 0 c.if-e-eq0.false,
       ← c.binder_place.ensures,
       ← c.same_name.ensures,
@@ -39,5 +35,5 @@ loop-left-preserved c =
     ))
 
 pub returns : goal.returns
-unfolding find_from same_name
-returns c = rw (← c.loop-left.invariant, c.loop-left-test.false)
+unfolding some_node
+returns c = rw (← c.loop-step.invariant, find_end _ _ c.loop-step-test.false)

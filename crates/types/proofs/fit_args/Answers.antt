@@ -1,73 +1,54 @@
-use mathlib.Core.Path.{◌≡◌, refl}
-use lib.ListN.{length}
-use borrow.Author.Tests.{eq-eqb, ne_eqb, not-false, not-true}
+use borrow.Author.Tests.{eq-eqb, ne_eqb}
 use Rattle.judge.specs.Types.{fits_from}
-use Rattle.types.proofs.Laws.{fits_more}
-use Rattle.std.proofs.Common.{rules}
+use Rattle.nodes.specs.Nodes.{some_node}
+use Rattle.types.proofs.Laws.{fits_more, fits_end}
 use Rattle.types.proofs.fit_args.Goals as goal
-
-pub loop-left-init : goal.loop-left-init
-loop-left-init c = refl
+use Rattle.types.proofs.fit_args.Goals.{then-z-eq0-2-via-then-z-eq0-2, then-z-eq0-2-via-else-z-eq0-2+then-not-arg_fits}
 
 pub returns-then-z-eq0 : goal.returns-then-z-eq0
 unfolding fits_from
 returns-then-z-eq0 c =
     rw (
-      ← c.loop-left.invariant,
-      fits_more _ c.loop-left-test.true,
+      ← c.loop-step.invariant,
+      fits_more _ _ c.loop-step-test.true,
       ← c.next_at-v.ensures,
       eq-eqb _ 0 c.if-v-eq0.true,
       eq-eqb _ 0 c.if-z-eq0.true,
-    )
+    ) c.some_node.ensures
 
-pub returns-then-v-eq0 : goal.returns-then-v-eq0
-unfolding fits_from
-returns-then-v-eq0 c =
+pub returns-else-z-eq0 : goal.returns-else-z-eq0
+unfolding fits_from some_node
+returns-else-z-eq0 c =
     rw (
-      ← c.loop-left.invariant,
-      fits_more _ c.loop-left-test.true,
+      ← c.loop-step.invariant,
+      fits_more _ _ c.loop-step-test.true,
       ← c.next_at-v.ensures,
       eq-eqb _ 0 c.if-v-eq0.true,
       ne_eqb _ 0 c.if-z-eq0.false,
     )
 
 pub returns-then-z-eq0-2 : goal.returns-then-z-eq0-2
-unfolding fits_from
+unfolding fits_from some_node
 returns-then-z-eq0-2 c =
-    rw (
-      ← c.loop-left.invariant,
-      fits_more _ c.loop-left-test.true,
-      ← c.next_at-v.ensures,
-      ne_eqb _ 0 c.if-v-eq0.false,
-      eq-eqb _ 0 c.if-z-eq0-2.true,
-    )
+    rw (← c.loop-step.invariant, fits_more _ _ c.loop-step-test.true, ← c.next_at-v.ensures, ne_eqb _ 0 c.if-v-eq0.false)
+    (elim c.then-z-eq0-2.branch [
+      | then-z-eq0-2-via-then-z-eq0-2 w ↦ rw (eq-eqb _ 0 w.if-z-eq0-2.true)
+      | then-z-eq0-2-via-else-z-eq0-2+then-not-arg_fits w ↦ rw (ne_eqb _ 0 w.if-z-eq0-2.false, ← w.arg_fits.ensures, w.if-not-arg_fits.true)
+    ])
 
-pub returns-then-not-arg_fits : goal.returns-then-not-arg_fits
+pub loop-step-preserved : goal.loop-step-preserved
 unfolding fits_from
-returns-then-not-arg_fits c =
-    rw (
-      ← c.loop-left.invariant,
-      fits_more _ c.loop-left-test.true,
+loop-step-preserved c =
+    rw (← c.loop-step.invariant) (rw (
+      fits_more _ _ c.loop-step-test.true,
       ← c.next_at-v.ensures,
       ne_eqb _ 0 c.if-v-eq0.false,
       ne_eqb _ 0 c.if-z-eq0-2.false,
       ← c.arg_fits.ensures,
-      not-true c.arg_fits.result c.if-not-arg_fits.true-raw,
-    )
-
-pub loop-left-preserved : goal.loop-left-preserved
-unfolding fits_from
-loop-left-preserved c =
-    rw (← c.loop-left.invariant) (rw (
-      fits_more _ c.loop-left-test.true,
-      ← c.next_at-v.ensures,
-      ne_eqb _ 0 c.if-v-eq0.false,
-      ne_eqb _ 0 c.if-z-eq0-2.false,
-      ← c.arg_fits.ensures,
-      not-false c.arg_fits.result c.if-not-arg_fits.false-raw,
+      c.if-not-arg_fits.false,
       c.next_at-z.ensures,
     ))
 
 pub returns : goal.returns
-unfolding fits_from
-returns c = rw (← c.loop-left.invariant, c.loop-left-test.false)
+unfolding some_node
+returns c = rw (← c.loop-step.invariant, fits_end _ _ c.loop-step-test.false)

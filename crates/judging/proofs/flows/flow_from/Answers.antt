@@ -1,20 +1,14 @@
-use mathlib.Core.Path.{◌≡◌, refl}
-use lib.ListN.{length}
-use borrow.Author.Tests.{eq-eqb, not-false, not-true}
+use borrow.Author.Tests.{eq-eqb}
 use Rattle.judge.specs.Rules.{flow_from}
-use Rattle.judging.proofs.Laws.{flow_more, flow_on, flow_stop}
-use Rattle.std.proofs.Common.{rules}
+use Rattle.judging.proofs.Laws.{flow_more, flow_on, flow_stop, flow_end}
 use Rattle.judging.proofs.flows.flow_from.Goals as goal
-
-pub loop-left-init : goal.loop-left-init
-loop-left-init c = refl
 
 pub returns-then-goes_with : goal.returns-then-goes_with
 unfolding flow_from
 returns-then-goes_with c =
     rw (
-      ← c.loop-left.invariant,
-      flow_more _ c.loop-left-test.true,
+      ← c.loop-step.invariant,
+      flow_more _ _ c.loop-step-test.true,
       ← c.entry-f.ensures,
       ← c.next_at-v.ensures,
       eq-eqb _ 0 c.if-v-eq0.true,
@@ -22,12 +16,12 @@ returns-then-goes_with c =
       c.if-goes_with.true,
     )
 
-pub returns-then-v-eq0 : goal.returns-then-v-eq0
+pub returns-else-goes_with : goal.returns-else-goes_with
 unfolding flow_from
-returns-then-v-eq0 c =
+returns-else-goes_with c =
     rw (
-      ← c.loop-left.invariant,
-      flow_more _ c.loop-left-test.true,
+      ← c.loop-step.invariant,
+      flow_more _ _ c.loop-step-test.true,
       ← c.entry-f.ensures,
       ← c.next_at-v.ensures,
       eq-eqb _ 0 c.if-v-eq0.true,
@@ -37,18 +31,14 @@ returns-then-v-eq0 c =
 
 pub returns-then-not-goes_on : goal.returns-then-not-goes_on
 returns-then-not-goes_on c =
-    rw (← c.loop-left.invariant)
-    (flow_stop _ c.loop-left-test.true _ _ _ _ c.entry-f.ensures
-    c.next_at-v.ensures c.if-v-eq0.false c.goes_on.ensures
-    (not-true c.goes_on.result c.if-not-goes_on.true-raw))
+    rw (← c.loop-step.invariant)
+    (flow_stop _ _ c.loop-step-test.true _ _ _ _ c.entry-f.ensures c.next_at-v.ensures c.if-v-eq0.false c.goes_on.ensures c.if-not-goes_on.true)
 
-pub loop-left-preserved : goal.loop-left-preserved
-loop-left-preserved c =
-    rw (← c.loop-left.invariant)
-    (flow_on _ c.loop-left-test.true _ _ _ _ c.entry-f.ensures
-    c.next_at-v.ensures c.if-v-eq0.false c.goes_on.ensures
-    (not-false c.goes_on.result c.if-not-goes_on.false-raw) c.seen-so_far.ensures)
+pub loop-step-preserved : goal.loop-step-preserved
+loop-step-preserved c =
+    rw (← c.loop-step.invariant)
+    (flow_on _ _ c.loop-step-test.true _ _ _ _ c.entry-f.ensures c.next_at-v.ensures c.if-v-eq0.false c.goes_on.ensures c.if-not-goes_on.false
+    c.seen-so_far.ensures)
 
 pub returns : goal.returns
-unfolding flow_from
-returns c = rw (← c.loop-left.invariant, c.loop-left-test.false)
+returns c = rw (← c.loop-step.invariant, flow_end _ _ c.loop-step-test.false)

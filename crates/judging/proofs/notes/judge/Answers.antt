@@ -1,30 +1,26 @@
-use Prim.Native.Nat.{◌≤◌}
-use mathlib.Core.Path.{◌≡◌, refl}
+use mathlib.Core.Path.{◌∙◌, refl}
 use native.Mathlib.Omega.{arith}
-use lib.ListN.{length}
-use Rattle.judge.specs.Judge.{judge_down}
-use Rattle.judging.proofs.Laws.{judge_more}
-use Rattle.std.proofs.Common.{rules}
+use Rattle.judging.proofs.Laws.{judge_more, judge_end}
+use Rattle.judging.proofs.Told.{told_none, number_answered, told_answered}
 use Rattle.judging.proofs.notes.judge.Goals as goal
 
 pub loop-i-init : goal.loop-i-init
-loop-i-init c = (refl, omega arith, refl)
-
-pub answer_after-refused-requires : goal.answer_after-refused-requires
-answer_after-refused-requires c = omega (arith, c.requires)
+loop-i-init c = record { told = told_none; rest = refl }
 
 pub loop-i-preserved : goal.loop-i-preserved
-loop-i-preserved c = (
-  rw (← c.loop-i.invariant.0) (rw (
+loop-i-preserved c = record {
+  told = rw c.answer_after-so_far.ensures (told_answered _ _ _ (omega (arith, c.requires, c.loop-i.auto.i)) c.loop-i.invariant.told);
+  rest = rw (← c.loop-i.invariant.rest) (rw (
     judge_more _ c.loop-i-test.true,
     ← c.note_of-note.ensures,
     c.put.ensures,
-    c.answer_after-refused.ensures,
-  )),
-  omega arith,
-  omega (arith, c.put.auto, c.loop-i.invariant.2),
-)
+    c.answer_after-so_far.ensures,
+    number_answered,
+  ));
+}
 
 pub returns : goal.returns
-unfolding judge_down
-returns c = rw (← c.loop-i.invariant.0, c.loop-i-test.false)
+returns c = record {
+  answer = c.loop-i.invariant.told;
+  notes = judge_end _ c.loop-i-test.false _ _ _ _ _ ∙ c.loop-i.invariant.rest;
+}

@@ -1,16 +1,11 @@
-use native.Mathlib.Omega.{arith}
-use borrow.Author.Tests.{eq-eqb, ne_eqb}
 use Rattle.judge.specs.Rules.{adr_rule}
-use Rattle.std.proofs.Common.{rules}
+use Rattle.nodes.proofs.Found.{is_none, is_some, is_there}
 use Rattle.judging.proofs.rules.adr_rule.Goals as goal
 
-pub returns-then-t-eq0 : goal.returns-then-t-eq0
+pub returns-in-Some : goal.returns-in-Some
 unfolding adr_rule
-returns-then-t-eq0 c = rw (← c.target_type-t.ensures.value, eq-eqb _ 0 c.if-t-eq0.true)
+returns-in-Some c = rw (is_there _ c.in-Some.ensures.value, ← is_some _ c.in-Some.ensures.value)
 
-pub overflow_add-result : goal.overflow_add-result
-overflow_add-result c = omega (arith, c.target_type-t.ensures.upper_bound)
-
-pub returns : goal.returns
+pub returns-in-None : goal.returns-in-None
 unfolding adr_rule
-returns c = rw (← c.target_type-t.ensures.value, ne_eqb _ 0 c.if-t-eq0.false)
+returns-in-None c = rw (is_none _ c.in-None.ensures.value)

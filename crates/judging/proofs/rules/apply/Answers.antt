@@ -1,33 +1,27 @@
-use borrow.Author.Tests.{eq-eqb, ne_eqb, not-false, not-true}
 use Rattle.judge.specs.Rules.{applied}
-use Rattle.std.proofs.Common.{rules}
+use Rattle.nodes.proofs.Found.{is_none, is_some, is_there}
 use Rattle.judging.proofs.rules.apply.Goals as goal
 
-pub returns-then-not-is_function : goal.returns-then-not-is_function
+pub returns-in-Some : goal.returns-in-Some
 unfolding applied
-returns-then-not-is_function c = rw (← c.note_kind.ensures, ← c.is_function.ensures, not-true c.is_function.result c.if-not-is_function.true-raw)
-
-pub returns-then-y-eq0 : goal.returns-then-y-eq0
-unfolding applied
-returns-then-y-eq0 c =
+returns-in-Some c =
     rw (
       ← c.note_kind.ensures,
       ← c.is_function.ensures,
-      not-false c.is_function.result c.if-not-is_function.false-raw,
+      c.if-not-is_function.false,
       ← c.first_part.ensures,
-      ← c.fit_args-y.ensures,
-      eq-eqb _ 0 c.if-y-eq0.true,
+      is_there _ c.in-Some.ensures,
+      ← is_some _ c.in-Some.ensures,
+      c.result_type.ensures,
     )
 
-pub returns : goal.returns
+pub returns-in-None : goal.returns-in-None
 unfolding applied
-returns c =
+returns-in-None c =
     rw (
       ← c.note_kind.ensures,
       ← c.is_function.ensures,
-      not-false c.is_function.result c.if-not-is_function.false-raw,
+      c.if-not-is_function.false,
       ← c.first_part.ensures,
-      ← c.fit_args-y.ensures,
-      ne_eqb _ 0 c.if-y-eq0.false,
-      c.result_type.ensures,
+      is_none _ c.in-None.ensures,
     )

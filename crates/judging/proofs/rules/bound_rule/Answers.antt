@@ -1,25 +1,18 @@
-use borrow.Author.Tests.{eq-eqb, ne_eqb}
 use Rattle.judge.specs.Rules.{bound_rule}
-use Rattle.std.proofs.Common.{rules}
+use Rattle.nodes.proofs.Found.{is_none, is_some, is_there}
 use Rattle.judging.proofs.rules.bound_rule.Goals as goal
 
-pub returns-then-b-eq0 : goal.returns-then-b-eq0
+pub returns-in-Some : goal.returns-in-Some
 unfolding bound_rule
-returns-then-b-eq0 c =
+returns-in-Some c =
     rw (
       ← c.place_at.ensures,
       ← c.env_at.ensures.value,
-      ← c.find_binder-b.ensures,
-      eq-eqb _ 0 c.if-b-eq0.true,
-    )
-
-pub returns : goal.returns
-unfolding bound_rule
-returns c =
-    rw (
-      ← c.place_at.ensures,
-      ← c.env_at.ensures.value,
-      ← c.find_binder-b.ensures,
-      ne_eqb _ 0 c.if-b-eq0.false,
+      is_there _ c.in-Some.ensures,
+      ← is_some _ c.in-Some.ensures,
       c.read_type.ensures,
     )
+
+pub returns-in-None : goal.returns-in-None
+unfolding bound_rule
+returns-in-None c = rw (← c.place_at.ensures, ← c.env_at.ensures.value, is_none _ c.in-None.ensures)

@@ -1,46 +1,30 @@
-use borrow.Author.Tests.{eq-eqb, ne_eqb, not-false, not-true}
+use borrow.Author.Tests.{ne_eqb}
 use Rattle.judge.specs.Rules.{called}
-use Rattle.std.proofs.Common.{rules}
+use Rattle.nodes.proofs.Found.{is_none, is_there}
 use Rattle.judging.proofs.rules.call_binder.Goals as goal
 
-pub returns-then-b-eq0 : goal.returns-then-b-eq0
+pub returns-in-Some : goal.returns-in-Some
 unfolding called
-returns-then-b-eq0 c = rw (eq-eqb _ 0 c.if-b-eq0.true)
-
-pub returns-then-not-is_procedure : goal.returns-then-not-is_procedure
-unfolding called
-returns-then-not-is_procedure c =
+returns-in-Some c =
     rw (
-      ne_eqb _ 0 c.if-b-eq0.false,
+      ne_eqb _ 0 c.requires,
       ← c.kind_at.ensures,
       ← c.is_procedure.ensures,
-      not-true c.is_procedure.result c.if-not-is_procedure.true-raw,
-    )
-
-pub returns-then-fit_args-eq0 : goal.returns-then-fit_args-eq0
-unfolding called
-returns-then-fit_args-eq0 c =
-    rw (
-      ne_eqb _ 0 c.if-b-eq0.false,
-      ← c.kind_at.ensures,
-      ← c.is_procedure.ensures,
-      not-false c.is_procedure.result c.if-not-is_procedure.false-raw,
+      c.if-not-is_procedure.false,
       ← c.child_at.ensures,
       ← c.next_at.ensures,
-      ← c.fit_args.ensures,
-      eq-eqb _ 0 c.if-fit_args-eq0.true,
+      is_there _ c.in-Some.ensures,
     )
 
-pub returns : goal.returns
+pub returns-in-None : goal.returns-in-None
 unfolding called
-returns c =
+returns-in-None c =
     rw (
-      ne_eqb _ 0 c.if-b-eq0.false,
+      ne_eqb _ 0 c.requires,
       ← c.kind_at.ensures,
       ← c.is_procedure.ensures,
-      not-false c.is_procedure.result c.if-not-is_procedure.false-raw,
+      c.if-not-is_procedure.false,
       ← c.child_at.ensures,
       ← c.next_at.ensures,
-      ← c.fit_args.ensures,
-      ne_eqb _ 0 c.if-fit_args-eq0.false,
+      is_none _ c.in-None.ensures,
     )

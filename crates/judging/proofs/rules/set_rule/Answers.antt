@@ -1,34 +1,33 @@
-use borrow.Author.Tests.{eq-eqb, ne_eqb}
 use Rattle.judge.specs.Rules.{set_rule}
-use Rattle.std.proofs.Common.{rules}
+use Rattle.nodes.proofs.Found.{is_none, is_some, is_there}
 use Rattle.judging.proofs.rules.set_rule.Goals as goal
 
-pub returns-then-t-eq0 : goal.returns-then-t-eq0
+pub returns-in-Some : goal.returns-in-Some
 unfolding set_rule
-returns-then-t-eq0 c = rw (← c.target_type-t.ensures.value, eq-eqb _ 0 c.if-t-eq0.true)
-
-pub returns-then-same_type : goal.returns-then-same_type
-unfolding set_rule
-returns-then-same_type c =
+returns-in-Some c =
     rw (
-      ← c.target_type-t.ensures.value,
-      ne_eqb _ 0 c.if-t-eq0.false,
+      is_there _ c.in-Some.ensures.value,
+      ← is_some _ c.in-Some.ensures.value,
       ← c.child_at.ensures,
       ← c.next_at.ensures,
-      ← c.entry.ensures,
+      ← c.entry-given.ensures,
       ← c.same_type.ensures,
       c.if-same_type.true,
     )
 
-pub returns : goal.returns
+pub returns-in_default : goal.returns-in_default
 unfolding set_rule
-returns c =
+returns-in_default c =
     rw (
-      ← c.target_type-t.ensures.value,
-      ne_eqb _ 0 c.if-t-eq0.false,
+      is_there _ c.in-Some.ensures.value,
+      ← is_some _ c.in-Some.ensures.value,
       ← c.child_at.ensures,
       ← c.next_at.ensures,
-      ← c.entry.ensures,
+      ← c.entry-given.ensures,
       ← c.same_type.ensures,
       c.if-same_type.false,
     )
+
+pub returns-in_default-2 : goal.returns-in_default-2
+unfolding set_rule
+returns-in_default-2 c = rw (is_none _ c.in_default.ensures.value)

@@ -1,7 +1,0 @@
--- `nodes::kind_at` meets its contract: the kind is split off the word by division.
-use Rattle.nodes.specs.Nodes.{node_at}
-use Rattle.nodes.proofs.kind_at.Goals as goal
-
-pub returns : goal.returns
-unfolding node_at
-returns c = rw c.entry.ensures
