@@ -4,7 +4,7 @@ use mathlib.Core.Bool.{Bool, true, false, cond}
 use mathlib.Core.List.{List, [], ◌∷◌}
 use Prim.Native.Nat.{ℕ, ◌+◌, ◌≤◌, ◌<◌}
 use native.Mathlib.Omega.{arith}
-use borrow.Author.Tests.{eq-eqb, ne_eqb}
+use borrow.Author.Tests.{ne_eqb}
 use lib.Dec.{eqb}
 use lib.IntN.{ℤ, pos, neg_ℤ}
 use lib.ListN.{drop}
@@ -14,13 +14,12 @@ use mir.Facts.{to_z-of_z}
 use Rattle.language.specs.Syntax.{Name}
 use Rattle.language.specs.Numbers.{Computed, amount, ranged}
 use Rattle.language.specs.Words.{is_digit, stretch, decimal, name_at}
-use Rattle.language.specs.Names.{Op, not, eq, lt, add, sub, mul, div, Meaning, literal, operator, free, meaning, operator_of}
+use Rattle.language.specs.Names.{not, eq, lt, add, sub, mul, div, Meaning, literal, operator, free, meaning, operator_of}
 use Rattle.amounts.specs.Amounts.{computed}
 use Rattle.amounts.specs.Signs.{signed}
-use Rattle.amounts.specs.declared.Amount.{Amount}
+use Rattle.std.specs.Prelude.{Option, Some, None}
 use Rattle.numerals.specs.Written.{written_from, number_front, read_number}
-use Rattle.numerals.specs.declared.Read.{Read}
-use Rattle.numerals.specs.declared.Read.TheVariants.{Number, Not}
+use Rattle.numerals.specs.declared.Numeral.{Numeral}
 use Rattle.numerals.proofs.Written.{computed_written}
 use Rattle.nodes.specs.Names.{meaning_no}
 use Rattle.nodes.specs.Nodes.{node_at}
@@ -35,9 +34,9 @@ pub kept : (z a : ℤ) → SFits w64 z → z ≡ a → to_z w64 (of_z w64 z) ≡
 kept z a f e = to_z-of_z f ∙ e
 
 -- what reading a number finds is the number that is written there, and 0 where none is
-abbrev found : Read → Computed
-found (Number end a) = computed a
-found Not = amount (pos 0)
+abbrev found : Option Numeral → Computed
+found (Some n) = computed n.value
+found None = amount (pos 0)
 
 digits_found : (i : ℕ) (negative : Bool) (digits : List ℕ) → found (written_from i negative digits) ≡ ranged (signed negative (decimal 0 digits))
 digits_found i true [] = refl
@@ -54,11 +53,11 @@ number_found i (b ∷ s) = by (eqb b 45)
     by true = digits_found (i + 1) true (stretch is_digit s)
     by false = digits_found i false (stretch is_digit (b ∷ s))
 
-pub number_read : (text : List ℕ) (i end : ℕ) (a : Amount) → read_number text i ≡ Number end a → computed a ≡ ranged (number_at text i)
+pub number_read : (text : List ℕ) (i : ℕ) (n : Numeral) → read_number text i ≡ Some n → computed n.value ≡ ranged (number_at text i)
 unfolding number_at
-number_read text i end a e = sym (ap found e) ∙ number_found i (drop i text)
+number_read text i n e = sym (ap found e) ∙ number_found i (drop i text)
 
-pub number_not : (text : List ℕ) (i : ℕ) → read_number text i ≡ Not → amount (pos 0) ≡ ranged (number_at text i)
+pub number_not : (text : List ℕ) (i : ℕ) → read_number text i ≡ None → amount (pos 0) ≡ ranged (number_at text i)
 unfolding number_at
 number_not text i e = sym (ap found e) ∙ number_found i (drop i text)
 

@@ -2,14 +2,14 @@
 use mathlib.Core.Path.{◌≡◌, refl, sym, ap, ◌∙◌}
 use mathlib.Core.Bool.{Bool, true, false}
 use mathlib.Core.List.{List, [], ◌∷◌, ◌++◌}
-use Prim.Native.Nat.{ℕ, zero, suc, ◌+◌, ◌-◌, ◌≤◌, ◌<◌}
+use Prim.Native.Nat.{ℕ, zero, suc, ◌+◌, ◌≤◌, ◌<◌}
 use native.Mathlib.Omega.{arith}
 use borrow.Author.Tests.{lt-ltb, le-ltb, ltb-true, ltb-false}
 use lib.Dec.{ltb}
-use lib.ListN.{length, get_or, set, take, drop, length-set, length-take, get_or-eq_default}
+use lib.ListN.{length, get_or, take, drop, length-set, length-take, get_or-eq_default}
 use lib.Seq.{get_or-set_same, get_or-set_other, get_or-take, get_or-drop, take-set-le}
 use Rattle.machine.specs.Entries.{pick}
-use Rattle.machine.specs.Program.{program_nodes, tree_in, codes_in, bounds_in}
+use Rattle.machine.specs.Program.{tree_in, codes_in, bounds_in}
 use Rattle.coding.specs.Pen.{Pen, pen, stored, writes}
 
 -- ---- the parts of a program

@@ -1,13 +1,14 @@
 -- The loop over a row is `row_codes`: a node, the nodes below it, then the rest of the row.
 use mathlib.Core.Path.{◌≡◌, refl, sym, ap, ◌∙◌, subst}
-use mathlib.Core.Bool.{Bool, true, false}
+use mathlib.Core.Bool.{Bool, true, false, cond}
 use mathlib.Core.List.{List, [], ◌∷◌, ◌++◌}
-use mathlib.Core.Option.{Option, none, some}
-use Prim.Native.Nat.{ℕ, zero, suc, ◌+◌, ◌-◌, ◌≤◌, ◌<◌}
+use mathlib.Core.Option as names
+use Prim.Native.Nat.{ℕ, zero, suc, ◌+◌, ◌≤◌, ◌<◌}
 use native.Mathlib.Omega.{arith}
-use borrow.Author.Tests.{eq-eqb, ne_eqb, eqb-true, eqb-false, ltb-true, ltb-false}
+use borrow.Author.Tests.{ne_eqb, eqb-true, eqb-false, ltb-true, ltb-false}
 use lib.Dec.{eqb, ltb}
 use lib.ListN.{length, get_or, get_or-eq_default}
+use Rattle.std.specs.Prelude.{Option, Some, None, IsSome, is_some}
 use Rattle.language.specs.Syntax.{Name, Block}
 use Rattle.nodes.specs.Nodes.{node_at}
 use Rattle.nodes.specs.Trees.{Script, kind, child, next, ReadAs}
@@ -15,7 +16,7 @@ use Rattle.nodes.specs.declared.Node.{Node}
 use Rattle.machine.specs.Entries.{pick}
 use Rattle.machine.specs.Leaves.{is_param}
 use Rattle.machine.specs.Program.{tree_in, codes_in, bounds_in}
-use Rattle.machine.specs.Codes.{name_of, code_for, after, own_of, entry, row_codes, codes_of, most_nodes}
+use Rattle.machine.specs.Codes.{name_of, code_for, after, own_of, entry, row_codes, codes_of}
 use Rattle.machine.proofs.Codes.{row_none, row_suc, codes_fit}
 use Rattle.coding.specs.Stack.{own_binder, binder_of, when_last, when_more, pushed, deeper, Pushed, Kept, names_in, binder_name, joined}
 use Rattle.coding.specs.Pen.{Pen, pen, stored, writes}
@@ -26,13 +27,20 @@ use Rattle.coding.proofs.Pen.{writes_bounds, writes_on, writes_most, writes_node
 
 -- ---- binders by their numbers
 
-pub last_none : (n b : ℕ) → (n ≡ 0 → ⊥) → when_last n b ≡ 0
+pub last_none : (n : ℕ) (b : Option ℕ) → (n ≡ 0 → ⊥) → when_last n b ≡ None
 unfolding when_last pick
 last_none n b h = rw (ne_eqb n 0 h)
 
-pub more_none : (n b : ℕ) → n ≡ 0 → when_more n b ≡ 0
+pub more_none : (n : ℕ) (b : Option ℕ) → n ≡ 0 → when_more n b ≡ None
 unfolding when_more pick
 more_none n b h = rw h
+
+never_false : {A : Type 0} → false ≡ true → A
+never_false e = absurd (let z : ◌≡◌ {A = ℕ} 0 1 = ap (λ t. cond t 1 0) e in omega arith)
+
+none_is_none : (b : Option ℕ) → b ≡ None → IsSome b → ⊥
+none_is_none None e h = never_false h
+none_is_none (Some i) e h = never_false (sym (ap is_some e))
 
 -- a child's number is 16 bits
 pub child_small : (t : List ℕ) (i : ℕ) → (node_at t i).child < 65536
@@ -55,23 +63,23 @@ module _ (g : Script) where
   own_is k i = by (eqb k 4) (eqb k 7) (eqb k 33)
     where
       by : (a b c : Bool) →
-          pick a (λ _. some (name_of g (child g i))) (λ _. pick b (λ _. some (name_of g (child g i))) λ _. pick c (λ _. some (name_of g (child g i))) λ _. none) ≡
-          binder_name g (pick a (λ _. suc (child g i)) λ _. pick b (λ _. suc (child g i)) λ _. pick c (λ _. suc (child g i)) λ _. 0)
+          pick a (λ _. names.some (name_of g (child g i))) (λ _. pick b (λ _. names.some (name_of g (child g i))) λ _. pick c (λ _. names.some (name_of g (child g i))) λ _. names.none) ≡
+          binder_name g (pick a (λ _. Some (child g i)) λ _. pick b (λ _. Some (child g i)) λ _. pick c (λ _. Some (child g i)) λ _. None)
       by true b c = refl
       by false true c = refl
       by false false true = refl
       by false false false = refl
 
-  entry_is : (own i : ℕ) (Γ : List Name) → entry g (binder_name g own) i Γ ≡ joined (binder_name g (when_last (next g i) own)) Γ
+  entry_is : (own : Option ℕ) (i : ℕ) (Γ : List Name) → entry g (binder_name g own) i Γ ≡ joined (binder_name g (when_last (next g i) own)) Γ
   unfolding entry binder_name when_last joined pick
-  entry_is zero i Γ = by (eqb (next g i) 0)
+  entry_is None i Γ = by (eqb (next g i) 0)
     where
-      by : (t : Bool) → Γ ≡ joined (binder_name g (pick t (λ _. 0) λ _. 0)) Γ
+      by : (t : Bool) → Γ ≡ joined (binder_name g (pick t (λ _. None) λ _. None)) Γ
       by true = refl
       by false = refl
-  entry_is (suc o) i Γ = by (eqb (next g i) 0)
+  entry_is (Some o) i Γ = by (eqb (next g i) 0)
     where
-      by : (t : Bool) → pick t (λ _. name_of g o ∷ Γ) (λ _. Γ) ≡ joined (binder_name g (pick t (λ _. suc o) λ _. 0)) Γ
+      by : (t : Bool) → pick t (λ _. name_of g o ∷ Γ) (λ _. Γ) ≡ joined (binder_name g (pick t (λ _. Some o) λ _. None)) Γ
       by true = refl
       by false = refl
 
@@ -81,7 +89,7 @@ module _ (g : Script) where
     where
       by : (a b c d : Bool) →
           pick a (λ _. Γ) (λ _. pick b (λ _. name_of g (child g i) ∷ Γ) λ _. pick c (λ _. name_of g i ∷ Γ) λ _. pick d (λ _. Γ) λ _. name_of g (child g i) ∷ Γ) ≡
-          joined (binder_name g (pick a (λ _. 0) λ _. pick b (λ _. suc (child g i)) λ _. pick c (λ _. suc i) λ _. pick d (λ _. 0) λ _. suc (child g i))) Γ
+          joined (binder_name g (pick a (λ _. None) λ _. pick b (λ _. Some (child g i)) λ _. pick c (λ _. Some i) λ _. pick d (λ _. None) λ _. Some (child g i))) Γ
       by true b c d = refl
       by false true c d = refl
       by false false true d = refl
@@ -89,18 +97,18 @@ module _ (g : Script) where
       by false false false false = refl
 
   -- what a node binds counts only where a sibling follows
-  rest_is : (k m i : ℕ) (Γ : List Name) (own : Option Name) →
+  rest_is : (k m i : ℕ) (Γ : List Name) (own : names.Option Name) →
       row_codes g k (after g m i Γ) own (next g i) ≡ row_codes g k (joined (binder_name g (when_more (next g i) (binder_of m i (child g i)))) Γ) own (next g i)
   unfolding when_more pick
   rest_is k m i Γ own = by (eqb (next g i) 0) (eqb-true (next g i) 0)
     where
       by : (t : Bool) → (t ≡ true → next g i ≡ 0) →
-          row_codes g k (after g m i Γ) own (next g i) ≡ row_codes g k (joined (binder_name g (pick t (λ _. 0) λ _. binder_of m i (child g i))) Γ) own (next g i)
-      by true e = rw (e refl) (row_none g k (after g m i Γ) own ∙ sym (row_none g k (joined (binder_name g 0) Γ) own))
+          row_codes g k (after g m i Γ) own (next g i) ≡ row_codes g k (joined (binder_name g (pick t (λ _. None) λ _. binder_of m i (child g i))) Γ) own (next g i)
+      by true e = rw (e refl) (row_none g k (after g m i Γ) own ∙ sym (row_none g k (joined (binder_name g None) Γ) own))
       by false e = rw (after_is m i Γ)
 
   -- a node, those below it, and the rest of its row
-  node_is : (k own i : ℕ) (Γ : List Name) → (i ≡ 0 → ⊥) →
+  node_is : (k : ℕ) (own : Option ℕ) (i : ℕ) (Γ : List Name) → (i ≡ 0 → ⊥) →
       row_codes g (suc k) Γ (binder_name g own) i ≡
       code_for g (kind g i) i (joined (binder_name g (when_last (next g i) own)) Γ) ∷
       row_codes g k (joined (binder_name g (when_last (next g i) own)) Γ) (binder_name g (own_binder (kind g i) (child g i))) (child g i) ++
@@ -112,14 +120,14 @@ module _ (g : Script) where
       row_suc g k Γ (binder_name g own) i z ∙
       (ap (λ (E : List Name). code_for g (kind g i) i E ∷ row_codes g k E (own_of g (kind g i) i) (child g i) ++ row_codes g k (after g (kind g i) i E) (binder_name g own) (next g i))
       (entry_is own i Γ) ∙
-      (ap (λ (o : Option Name). code_for g (kind g i) i Δ ∷ row_codes g k Δ o (child g i) ++ row_codes g k (after g (kind g i) i Δ) (binder_name g own) (next g i))
+      (ap (λ (o : names.Option Name). code_for g (kind g i) i Δ ∷ row_codes g k Δ o (child g i) ++ row_codes g k (after g (kind g i) i Δ) (binder_name g own) (next g i))
       (own_is (kind g i) i) ∙
       ap (λ (l : List ℕ). code_for g (kind g i) i Δ ∷ row_codes g k Δ (binder_name g (own_binder (kind g i) (child g i))) (child g i) ++ l)
       (rest_is k (kind g i) i Δ (binder_name g own))))
 
 -- ---- the loop's invariant: what is left to write of the row
 
-pub record Going (text prog scopes : List ℕ) (base own first from : ℕ) (p s : List ℕ) (i depth at : ℕ) : Type 0 where
+pub record Going (text prog scopes : List ℕ) (base : ℕ) (own : Option ℕ) (first from : ℕ) (p s : List ℕ) (i depth at : ℕ) : Type 0 where
   pub tree_same : tree_in p ≡ tree_in prog
   pub stack_same : Kept base scopes s
   pub high : base ≤ depth
@@ -132,7 +140,7 @@ pub record Going (text prog scopes : List ℕ) (base own first from : ℕ) (p s 
       (writes (pen prog from) (row_codes (script_in prog text) k (names_in (script_in prog text) scopes base) (binder_name (script_in prog text) own) first) ≡
       writes (pen p at) (row_codes (script_in prog text) m (names_in (script_in prog text) s depth) (binder_name (script_in prog text) own) i))
 
-pub starts : (text prog scopes : List ℕ) (base own first from : ℕ) → base ≤ from → from ≤ 4096 → first < 65536 →
+pub starts : (text prog scopes : List ℕ) (base : ℕ) (own : Option ℕ) (first from : ℕ) → base ≤ from → from ≤ 4096 → first < 65536 →
     Going text prog scopes base own first from prog scopes first base from
 starts text prog scopes base own first from h r f =
     record {
@@ -146,7 +154,7 @@ starts text prog scopes base own first from h r f =
       left = λ k l. (k, l, refl);
     }
 
-module _ (text prog scopes : List ℕ) (base own first from : ℕ) (p s : List ℕ) (i depth at : ℕ) (here : Going text prog scopes base own first from p s i depth at) where
+module _ (text prog scopes : List ℕ) (base : ℕ) (own : Option ℕ) (first from : ℕ) (p s : List ℕ) (i depth at : ℕ) (here : Going text prog scopes base own first from p s i depth at) where
   abbrev g : Script
   g = script_in prog text
 
@@ -169,10 +177,10 @@ module _ (text prog scopes : List ℕ) (base own first from : ℕ) (p s : List �
       }
 
   -- one node with all below it
-  module _ (there : i ≡ 0 → ⊥) (room : at < 4096) (long : 4096 ≤ length scopes) (n : Node) (n-is : n ≡ node_at (tree_in p) i) (a : ℕ) (a-is : a ≡ when_last n.next own)
+  module _ (there : i ≡ 0 → ⊥) (room : at < 4096) (long : 4096 ≤ length scopes) (n : Node) (n-is : n ≡ node_at (tree_in p) i) (a : Option ℕ) (a-is : a ≡ when_last n.next own)
       (s₁ : List ℕ) (inner : ℕ) (in-was : Pushed s depth a s₁ inner) where
     in_is : Pushed s depth (when_last n.next own) s₁ inner
-    in_is = subst (λ (u : ℕ). Pushed s depth u s₁ inner) a-is in-was
+    in_is = subst (λ (u : Option ℕ). Pushed s depth u s₁ inner) a-is in-was
 
     pub inner_paid : inner ≤ at + 1
     inner_paid = let d = deeper_most depth (when_last n.next own) in let e = in_is.depth_is in let h = here.paid in omega (arith, d, e, h)
@@ -210,11 +218,11 @@ module _ (text prog scopes : List ℕ) (base own first from : ℕ) (p s : List �
         (ap (λ (d : ℕ). names_in g (pushed s depth (when_last n.next own)) d) in_is.depth_is ∙ names_pushed g s depth (when_last n.next own) (λ _. s_long))
 
     module _ (c : ℕ) (c-is : c ≡ code_for (script_in p text) n.kind i (names_in (script_in p text) s₁ inner)) (p₁ : List ℕ) (p₁-is : p₁ ≡ stored p at c)
-        (o : ℕ) (o_is : o ≡ own_binder n.kind n.child) (p₂ s₂ : List ℕ) (at₂ : ℕ)
+        (o : Option ℕ) (o_is : o ≡ own_binder n.kind n.child) (p₂ s₂ : List ℕ) (at₂ : ℕ)
         (below : RowCoded text p₁ s₁ inner o n.child (at + 1) p₂ s₂ at₂)
-        (q : ℕ) (q-is : q ≡ binder_of n.kind i n.child) (b : ℕ) (b-was : b ≡ when_more n.next q) (s₃ : List ℕ) (deep : ℕ) (out-is : Pushed s₂ inner b s₃ deep) where
+        (q : Option ℕ) (q-is : q ≡ binder_of n.kind i n.child) (b : Option ℕ) (b-was : b ≡ when_more n.next q) (s₃ : List ℕ) (deep : ℕ) (out-is : Pushed s₂ inner b s₃ deep) where
       b_is : b ≡ when_more n.next (binder_of n.kind i n.child)
-      b_is = b-was ∙ ap (λ (u : ℕ). when_more n.next u) q-is
+      b_is = b-was ∙ ap (λ (u : Option ℕ). when_more n.next u) q-is
 
       tree₁ : tree_in p₁ ≡ tree_in prog
       tree₁ = ap tree_in p₁-is ∙ (tree_stored p at c ∙ here.tree_same)
@@ -228,17 +236,17 @@ module _ (text prog scopes : List ℕ) (base own first from : ℕ) (p s : List �
           below.codes_are k h ∙
           (ap (λ (t : List ℕ). writes (pen p₁ (at + 1)) (row_codes (script t text) k (names_in (script t text) s₁ inner) (binder_name (script t text) o) n.child)) tree₁ ∙
           (ap (λ (q : List ℕ). writes (pen q (at + 1)) (row_codes g k (names_in g s₁ inner) (binder_name g o) n.child)) p₁-is ∙
-          ap (λ (u : ℕ). writes (pen (stored p at c) (at + 1)) (row_codes g k (names_in g s₁ inner) (binder_name g u) n.child)) o_is))
+          ap (λ (u : Option ℕ). writes (pen (stored p at c) (at + 1)) (row_codes g k (names_in g s₁ inner) (binder_name g u) n.child)) o_is))
 
       -- of the two pushes at a node one is none
-      one_push : (b ≡ 0 → ⊥) → inner ≡ depth
+      one_push : IsSome b → inner ≡ depth
       one_push h = by (eqb n.next 0) (eqb-true n.next 0) (eqb-false n.next 0)
         where
           by : (t : Bool) → (t ≡ true → n.next ≡ 0) → (t ≡ false → n.next ≡ 0 → ⊥) → inner ≡ depth
-          by true e f = absurd (h (b_is ∙ more_none n.next (binder_of n.kind i n.child) (e refl)))
-          by false e f = in_is.depth_is ∙ (ap (λ (u : ℕ). deeper depth u) (last_none n.next own (f refl)) ∙ deeper_none depth)
+          by true e f = absurd (none_is_none b (b_is ∙ more_none n.next (binder_of n.kind i n.child) (e refl)) h)
+          by false e f = in_is.depth_is ∙ (ap (λ (u : Option ℕ). deeper depth u) (last_none n.next own (f refl)) ∙ deeper_none depth)
 
-      out_long : (b ≡ 0 → ⊥) → inner < length s₂
+      out_long : IsSome b → inner < length s₂
       out_long h =
           let e = below.stack_kept.size_kept in let d = one_push h in let q = here.paid in let r = inner_long in
           omega (arith, e, d, q, room, r)
@@ -267,10 +275,10 @@ module _ (text prog scopes : List ℕ) (base own first from : ℕ) (p s : List �
       deep_paid : deep ≤ at + 1
       deep_paid = by b out-is.depth_is one_push
         where
-          by : (u : ℕ) → deep ≡ deeper inner u → ((u ≡ 0 → ⊥) → inner ≡ depth) → deep ≤ at + 1
-          by zero e f = let h = inner_paid in let d = deeper_none inner in omega (arith, h, e, d)
-          by (suc u) e f =
-              let h = here.paid in let q = f (λ z. omega (arith, z)) in let d = deeper_most inner (suc u) in
+          by : (u : Option ℕ) → deep ≡ deeper inner u → (IsSome u → inner ≡ depth) → deep ≤ at + 1
+          by None e f = let h = inner_paid in let d = deeper_none inner in omega (arith, h, e, d)
+          by (Some u) e f =
+              let h = here.paid in let q = f refl in let d = deeper_most inner (Some u) in
               omega (arith, h, q, e, d)
 
       rest : (k : ℕ) → 4096 ≤ from + k →
@@ -330,7 +338,7 @@ too_short text p s h = record { tree_kept = refl; bounds_kept = refl; codes_are 
 
 -- the root's code, then those of its row
 pub all_coded : (text p s p₁ : List ℕ) (f : ℕ) → f ≡ (node_at (tree_in p) 0).child → length p ≡ 8195 → p₁ ≡ stored p 0 0 → (p₂ s₂ : List ℕ) (r : ℕ) →
-    RowCoded text p₁ s 0 0 f 1 p₂ s₂ r → CodesWritten text p s p₂
+    RowCoded text p₁ s 0 None f 1 p₂ s₂ r → CodesWritten text p s p₂
 unfolding codes_of names_in binder_name Blank
 all_coded text p s p₁ f f-is n p₁-is p₂ s₂ r h =
     record {
@@ -347,10 +355,10 @@ all_coded text p s p₁ f f-is n p₁-is p₂ s₂ r h =
     whole : pen p₂ r ≡ writes (pen p 0) (codes_of (script_in p text))
     whole =
         h.codes_are 4096 (omega arith) ∙
-        (ap (λ (t : List ℕ). writes (pen p₁ 1) (row_codes (script t text) 4096 [] none f)) (ap tree_in p₁-is ∙ tree_stored p 0 0) ∙
-        (ap (λ (q : List ℕ). writes (pen q 1) (row_codes (script_in p text) 4096 [] none f)) p₁-is ∙
-        (ap (λ (i : ℕ). writes (pen (stored p 0 0) 1) (row_codes (script_in p text) 4096 [] none i)) f-is ∙
-        sym (writes_one (pen p 0) 0 (row_codes (script_in p text) 4096 [] none (node_at (tree_in p) 0).child) (omega arith)))))
+        (ap (λ (t : List ℕ). writes (pen p₁ 1) (row_codes (script t text) 4096 [] names.none f)) (ap tree_in p₁-is ∙ tree_stored p 0 0) ∙
+        (ap (λ (q : List ℕ). writes (pen q 1) (row_codes (script_in p text) 4096 [] names.none f)) p₁-is ∙
+        (ap (λ (i : ℕ). writes (pen (stored p 0 0) 1) (row_codes (script_in p text) 4096 [] names.none i)) f-is ∙
+        sym (writes_one (pen p 0) 0 (row_codes (script_in p text) 4096 [] names.none (node_at (tree_in p) 0).child) (omega arith)))))
 
 -- a text that reads has no code past the program's, so the codes are all right
 pub all_codes : (g : Script) {b : Block} (p : List ℕ) → ReadAs g b → ((i : ℕ) → i < 4096 → get_or (codes_in p) i 0 ≡ get_or (codes_of g) i 0) →

@@ -1,5 +1,5 @@
 -- What is promised of the codes that are written.
-use Rattle.std.specs.Prelude.{ℕ, ◌+◌, ◌≤◌, ◌<◌, ◌≡◌, List, length, get_or}
+use Rattle.std.specs.Prelude.{ℕ, ◌+◌, ◌≤◌, ◌<◌, ◌≡◌, List, Option, length, get_or}
 use Rattle.nodes.specs.Trees.{Script}
 use Rattle.machine.specs.Program.{program_nodes, tree_in, codes_in, bounds_in}
 use Rattle.machine.specs.Codes.{row_codes, codes_of}
@@ -19,7 +19,7 @@ unfoldable pub Blank : (prog : List ℕ) → Type 0
 Blank p = (i : ℕ) → get_or (codes_in p) i 0 ≡ 0
 
 -- the row from the node i on is coded: with the names of the stack in force, behind the codes that are there
-pub record RowCoded (text prog scopes : List ℕ) (depth own i at : ℕ) (prog' scopes' : List ℕ) (at' : ℕ) : Type 0 where
+pub record RowCoded (text prog scopes : List ℕ) (depth : ℕ) (own : Option ℕ) (i at : ℕ) (prog' scopes' : List ℕ) (at' : ℕ) : Type 0 where
   -- each node takes one of the program's, so that many steps down are enough
   pub codes_are : (k : ℕ) → program_nodes ≤ at + k →
       pen prog' at' ≡ writes (pen prog at) (row_codes (script_in prog text) k (names_in (script_in prog text) scopes depth) (binder_name (script_in prog text) own) i)

@@ -21,7 +21,7 @@ use Rattle.machine.specs.Leaves.{binding_behind, is_param, behind_type, body_aft
 use Rattle.machine.specs.contracts.Ending.{the_type}
 use Rattle.machine.proofs.Members.{no_unit, no_level, goes_in}
 use Rattle.stores.proofs.Laws.{NoValue, not_value}
-use Rattle.entering.specs.Opening.{guarded, opened, with_bindings, with_cell_count, fresh_cell, definition_by, definition, opens}
+use Rattle.entering.specs.Opening.{guarded, opened, fresh_cell, definition_by, definition, opens}
 
 -- ---- entries
 
@@ -110,6 +110,19 @@ module _ (tree w : List ℕ) (left at from next within : ℕ) (b : List ℕ) whe
 
 -- ---- calls
 
+-- the counts with so many bindings taken, and with so many cells
+abbrev with_bindings : ℕ → Counts → Counts
+with_bindings n c = record { units = c.units; bindings = n; cells = c.cells; numbers = c.numbers }
+
+abbrev with_cells : ℕ → Counts → Counts
+with_cells n c = record { units = c.units; bindings = c.bindings; cells = n; numbers = c.numbers }
+
+suc_plus : (n k : ℕ) → suc (n + k) ≡ suc n + k
+suc_plus n k = omega arith
+
+one_plus : (k : ℕ) → suc k ≡ 1 + k
+one_plus k = omega arith
+
 module _ (g : Run) (p n sp q : ℕ) (m : Tables) (e : Ending) (e-is : e ≡ body_after g.tree n q) where
   module _ (env : ℕ) where
     pub enter_not : NoValue e → is e m ≡ enter g p n sp q env m
@@ -121,11 +134,11 @@ module _ (g : Run) (p n sp q : ℕ) (m : Tables) (e : Ending) (e-is : e ≡ body
       unfolding enter and_then pick
       enter_full h = rw (← e-is, found, ← r-is, h)
 
-      pub enter_some : r ≡ true → (within : ℕ) (b : List ℕ) (k : Counts) →
-          opened within b ≡ bind_all_at g.tree n q sp m.waiting m.counts.bindings env m.bindings → k ≡ with_bindings n m.counts →
-          is (Value within body) (tables k b m.cells m.output m.waiting) ≡ enter g p n sp q env m
+      pub enter_some : r ≡ true → (within : ℕ) (b : List ℕ) →
+          opened within b ≡ bind_all_at g.tree n q sp m.waiting m.counts.bindings env m.bindings →
+          is (Value within body) (tables (with_bindings (n + m.counts.bindings) m.counts) b m.cells m.output m.waiting) ≡ enter g p n sp q env m
       unfolding enter and_then pick
-      enter_some h within b k o_is k-is = rw (← e-is, found, ← r-is, h, ← o_is, k-is)
+      enter_some h within b o_is = rw (← e-is, found, ← r-is, h, ← o_is)
 
   module _ (tag word : ℕ) where
     pub named_not : NoValue e → is e m ≡ enter_again g p n sp q tag word m
@@ -137,14 +150,16 @@ module _ (g : Run) (p n sp q : ℕ) (m : Tables) (e : Ending) (e-is : e ≡ body
       unfolding enter_again and_then pick
       named_full h = rw (← e-is, found, ← r-is, h)
 
-      pub named_some : r ≡ true → (env within : ℕ) (b b₁ : List ℕ) (k : Counts) → env ≡ env_of word →
+      pub named_some : r ≡ true → (env within : ℕ) (b b₁ : List ℕ) → env ≡ env_of word →
           opened within b ≡ bind_all_at g.tree n q sp m.waiting m.counts.bindings env m.bindings →
           b₁ ≡ put_binding b (n + m.counts.bindings) (binding_behind b tag word within) →
-          k ≡ with_bindings (n + 1) m.counts →
-          is (Value (n + m.counts.bindings + 1) body) (tables k b₁ m.cells m.output m.waiting) ≡ enter_again g p n sp q tag word m
+          is (Value (n + m.counts.bindings + 1) body) (tables (with_bindings (n + m.counts.bindings + 1) m.counts) b₁ m.cells m.output m.waiting) ≡
+          enter_again g p n sp q tag word m
       unfolding enter_again and_then pick
-      named_some h env within b b₁ k env_is o_is b_is k-is =
-          rw (← e-is, found, ← r-is, h, ← env_is, ← o_is, ← b_is, k-is, add-one n, add-one (n + m.counts.bindings))
+      named_some h env within b b₁ env_is o_is b_is =
+          rw (← e-is, found, ← r-is, h, ← env_is, ← o_is, ← b_is, add-one (n + m.counts.bindings))
+          (ap (λ (j : ℕ). is (Value (suc (n + m.counts.bindings)) body) (tables (with_bindings j m.counts) b₁ m.cells m.output m.waiting))
+          (suc_plus n m.counts.bindings))
 
 module _ (g : Run) (p n sp tag word : ℕ) (m : Tables) where
   module _ (node : ℕ) (node_is : node ≡ node_of word) where
@@ -187,20 +202,26 @@ module _ (g : Run) (form p n sp tag word : ℕ) (m : Tables) where
 
 module _ (g : Run) (p env : ℕ) (m : Tables) where
   module _ (tag word : ℕ) where
-    pub define_some : m.counts.bindings < (g.bounds).bindings → (b : List ℕ) (k : Counts) →
-        b ≡ put_binding m.bindings m.counts.bindings (binding_behind m.bindings tag word env) → k ≡ with_bindings 1 m.counts →
-        is (Value 7 (m.counts.bindings + 1)) (tables k b m.cells m.output m.waiting) ≡ define g p tag word env m
+    pub define_some : m.counts.bindings < (g.bounds).bindings → (b : List ℕ) →
+        b ≡ put_binding m.bindings m.counts.bindings (binding_behind m.bindings tag word env) →
+        is (Value 7 (m.counts.bindings + 1)) (tables (with_bindings (m.counts.bindings + 1) m.counts) b m.cells m.output m.waiting) ≡ define g p tag word env m
     unfolding define pick
-    define_some h b k b_is k-is = rw (lt-ltb _ _ h, b_is, k-is, add-one m.counts.bindings)
+    define_some h b b_is =
+        rw (lt-ltb _ _ h, add-one m.counts.bindings, ← b_is)
+        (ap (λ (j : ℕ). is (Value 7 (suc m.counts.bindings)) (tables (with_bindings j m.counts) b m.cells m.output m.waiting))
+        (one_plus m.counts.bindings))
 
     pub define_full : (g.bounds).bindings ≤ m.counts.bindings → is (Stop 23 p) m ≡ define g p tag word env m
     unfolding define pick
     define_full h = rw (le-ltb _ _ h)
 
-  pub cell_some : m.counts.cells < (g.bounds).cells → (c : List ℕ) (new : Cell) (k : Counts) → new ≡ fresh_cell p → c ≡ put_cell m.cells m.counts.cells new →
-      k ≡ with_cell_count 1 m.counts → define g p 5 m.counts.cells env (tables k m.bindings c m.output m.waiting) ≡ define_cell g p env m
+  pub cell_some : m.counts.cells < (g.bounds).cells → (c : List ℕ) (new : Cell) → new ≡ fresh_cell p → c ≡ put_cell m.cells m.counts.cells new →
+      define g p 5 m.counts.cells env (tables (with_cells (m.counts.cells + 1) m.counts) m.bindings c m.output m.waiting) ≡ define_cell g p env m
   unfolding define_cell put_cells pick
-  cell_some h c new k New-is c-is k-is = rw (lt-ltb _ _ h, c-is, New-is, k-is)
+  cell_some h c new New-is c-is =
+      rw (lt-ltb _ _ h, c-is, New-is, add-one m.counts.cells)
+      (ap (λ (j : ℕ). define g p 5 m.counts.cells env (tables (with_cells j m.counts) m.bindings (put_cell m.cells m.counts.cells (fresh_cell p)) m.output m.waiting))
+      (one_plus m.counts.cells))
 
   pub cell_full : (g.bounds).cells ≤ m.counts.cells → is (Stop 22 p) m ≡ define_cell g p env m
   unfolding define_cell pick
@@ -221,11 +242,11 @@ module _ (g : Run) (p : ℕ) (size : Row) (m : Tables) where
       unfolding allocate pick
       allocate_full h = rw (eq-eqb _ 0 number, lt-ltb _ _ counts, ← r-is, h)
 
-      pub allocate_some : r ≡ true → (c : List ℕ) (new : Cell) (word : ℕ) (k : Counts) → new ≡ fresh_cell p → c ≡ put_cells size.word m.cells m.counts.cells new →
-          word ≡ closure_word m.counts.cells size.word → k ≡ with_cell_count size.word m.counts →
-          is (Value 9 word) (tables k m.bindings c m.output m.waiting) ≡ allocate g p size m
+      pub allocate_some : r ≡ true → (c : List ℕ) (new : Cell) (word : ℕ) → new ≡ fresh_cell p → c ≡ put_cells size.word m.cells m.counts.cells new →
+          word ≡ closure_word m.counts.cells size.word →
+          is (Value 9 word) (tables (with_cells (size.word + m.counts.cells) m.counts) m.bindings c m.output m.waiting) ≡ allocate g p size m
       unfolding allocate pick
-      allocate_some h c new word k New-is c-is word-is k-is = rw (eq-eqb _ 0 number, lt-ltb _ _ counts, ← r-is, h, c-is, New-is, word-is, k-is)
+      allocate_some h c new word New-is c-is word-is = rw (eq-eqb _ 0 number, lt-ltb _ _ counts, ← r-is, h, c-is, New-is, word-is)
 
 module _ (g : Run) (env : ℕ) (n : Node) (m : Tables) where
   pub definition_kind : (k : ℕ) → n.kind ≡ k → definition_by g k env n m ≡ definition g env n m

@@ -1,10 +1,15 @@
 -- What entries, calls and definitions answer, in the evaluator's terms.
-use Rattle.std.specs.Prelude.{ℕ, ◌+◌, ◌-◌, List, eqb}
+use Rattle.std.specs.Prelude.{ℕ, ◌-◌, List, eqb, Result}
 use Rattle.machine.specs.declared.Cell.{Cell}
-use Rattle.machine.specs.declared.Counts.{Counts}
 use Rattle.nodes.specs.declared.Node.{Node}
 use Rattle.nodes.specs.Nodes.{node_at}
+use Rattle.machine.specs.declared.Ending.{Ending}
 use Rattle.machine.specs.declared.Ending.TheVariants.{Value, NoRule}
+use Rattle.stores.specs.declared.End.{End}
+use Rattle.stores.specs.Ends.{ending}
+use Rattle.entering.specs.declared.Entered.{Entered}
+use Rattle.entering.specs.declared.Form.{Form}
+use Rattle.entering.specs.declared.Form.TheVariants.{Application, Call}
 use Rattle.machine.specs.Entries.{pick, function_tag, recursive_function_tag, procedure_tag, recursive_procedure_tag, unset_tag, done_tag, cell, closure_word}
 use Rattle.machine.specs.State.{Run, Tables, Ret, is, guard}
 use Rattle.machine.specs.Leaves.{Opened, open_function_at, open_procedure_at, define, define_cell}
@@ -17,11 +22,14 @@ guarded d p m = guard d p m λ m₁. is (Value done_tag (d - 1)) m₁
 abbrev pub opened : ℕ → List ℕ → Opened
 opened e b = record { env = e; bindings = b }
 
-abbrev pub with_bindings : ℕ → Counts → Counts
-with_bindings n c = record { units = c.units; bindings = n + c.bindings; cells = c.cells; numbers = c.numbers }
+-- what is entered
+abbrev pub entered_ending : Result Entered End → Ending
+entered_ending r = ending (λ x. Value x.env x.body) r
 
-abbrev pub with_cell_count : ℕ → Counts → Counts
-with_cell_count n c = record { units = c.units; bindings = c.bindings; cells = n + c.cells; numbers = c.numbers }
+-- the kind of the node that makes the call: an application, or a CALL
+abbrev pub form_number : Form → ℕ
+form_number Application = 23
+form_number Call = 12
 
 -- a cell made at the place p, which is not set
 abbrev pub fresh_cell : (p : ℕ) → Cell

@@ -16,6 +16,7 @@ use Rattle.machine.proofs.Members.{below_level}
 use Rattle.entering.specs.Opening.{guarded}
 use Rattle.stores.proofs.Laws.{NoValue, not_value}
 use Rattle.entering.proofs.Laws.{stop_no_value, same_word}
+use Rattle.running.specs.Lent.{round_tag}
 use Rattle.stores.specs.Choices.{is_bit, bit_answer, branch_of, round_end}
 
 -- ---- answers
@@ -168,3 +169,17 @@ pub record Going (turns : ℕ → Ret) (whole : Ret) (units first : ℕ) : Type 
   pub more : units < left
   pub same : turns left ≡ whole
   pub spent : units ≤ first
+
+-- whether a round asks for one more
+
+pub once_more : (b : Bool) → b ≡ true → round_tag b ≡ 8
+once_more true h = refl
+once_more false h = cc
+
+pub not_again : (b : Bool) → b ≡ false → round_tag b ≡ 8 → ⊥
+not_again true h k = cc
+not_again false h k = omega (arith, k)
+
+pub over : (b : Bool) (env : ℕ) (m : Tables) → b ≡ false → is (Value 7 env) m ≡ is (Value (round_tag b) env) m
+over true env m h = cc
+over false env m h = refl

@@ -6,6 +6,7 @@ use Prim.Native.Nat.{ℕ, suc, ◌+◌, ◌-◌, ◌≤◌, ◌<◌}
 use native.Mathlib.Numerals.{add-one}
 use native.Mathlib.Omega.{arith}
 use borrow.Author.Tests.{eq-eqb, ne_eqb, lt-ltb, le-ltb}
+use denote.Enum.Declared.{tag_of}
 use lib.Dec.{leb}
 use lib.IntN.{ℤ}
 use lib.ListN.{set}
@@ -20,9 +21,33 @@ use Rattle.machine.specs.declared.Row.{Row}
 use Rattle.machine.specs.declared.Ending.{Ending}
 use Rattle.machine.specs.declared.Ending.TheVariants.{Value, Stop, Unset, Returned, NoRule}
 use Rattle.machine.specs.Entries.{pick, binding_at, put_cell, put_cells, node_of, env_of}
-use Rattle.machine.specs.State.{Run, Tables, tables, Ret, is, and_then, if_value, on_value, caught}
+use Rattle.machine.specs.State.{Run, Tables, tables, Ret, is, and_then, if_value, on_value}
 use Rattle.machine.specs.Leaves.{code_in, walk, stored, element_of, set_element}
+use Rattle.machine.specs.contracts.Ending.{the_type}
+use Rattle.std.specs.Result.{IsErrAnd}
+use Rattle.std.proofs.Common.{Result, Err}
+use Rattle.std.proofs.lemmas.Result.{err_from_is_err_and}
+use Rattle.stores.specs.declared.End.{End}
+use Rattle.stores.specs.declared.End.TheVariants as E
+use Rattle.stores.specs.Ends.{end_of}
 use Rattle.stores.specs.Choices.{outward, plain_by, plain_value, echoed}
+
+-- ---- what a loop over a range has left
+
+pub none_done : (n : ℕ) → n - 0 ≡ n
+none_done n = omega arith
+
+pub all_left : (k n : ℕ) → k + n - k ≡ n
+all_left k n = omega arith
+
+pub some_left : (n k : ℕ) → k < n → n - k ≡ 0 → ⊥
+some_left n k h e = omega arith
+
+pub one_less : (n k : ℕ) → n - (k + 1) ≡ n - k - 1
+one_less n k = omega arith
+
+pub none_left : (n k : ℕ) → n ≤ k → n - k ≡ 0
+none_left n k h = omega arith
 
 -- ---- cells
 
@@ -93,13 +118,22 @@ not_value (Unset p q) h m k = refl
 not_value (Returned t x) h m k = refl
 not_value NoRule h m k = refl
 
--- what is neither a value nor returned is not caught
-pub not_caught : (e : Ending) → NoValue e → ((t x : ℕ) → e ≡ Returned t x → ⊥) → e ≡ caught e
-not_caught (Value t x) h r = absurd (h t x refl)
-not_caught (Stop n p) h r = refl
-not_caught (Unset p q) h r = refl
-not_caught (Returned t x) h r = absurd (r t x refl)
-not_caught NoRule h r = refl
+-- an end of the code's is no value
+pub end_no_value : (e : End) → NoValue (end_of e)
+end_no_value (E.Stop n p) t x h = let k = ap (tag_of the_type) h in omega (arith, k)
+end_no_value (E.Unset p q) t x h = let k = ap (tag_of the_type) h in omega (arith, k)
+end_no_value (E.Returned r) t x h = let k = ap (tag_of the_type) h in omega (arith, k)
+end_no_value E.NoRule t x h = let k = ap (tag_of the_type) h in omega (arith, k)
+
+pub end_passes : (e : End) (k : ℕ → ℕ → Ending) → end_of e ≡ if_value (end_of e) k
+end_passes (E.Stop n p) k = refl
+end_passes (E.Unset p q) k = refl
+end_passes (E.Returned r) k = refl
+end_passes E.NoRule k = refl
+
+-- a `?` that leaves the function gives back the end that it found
+pub exit : {A : Type 0} (r : Result A End) (e : End) → IsErrAnd r (λ d. d ≡ e) → r ≡ Err e
+exit r e h = let p = err_from_is_err_and r h in p.1 ∙ ap Err p.2
 
 -- ---- blocks of cells
 

@@ -1,8 +1,6 @@
 -- By induction over the codes that are left: what is left of the row is written as the whole row is.
-use Prim.Native.Nat.{ℕ, ◌-◌, ◌<◌}
 use native.Mathlib.Omega.{arith}
-use Rattle.coding.proofs.Rows.{small_child, Going, starts, row_ends, room_ends, inner_paid, inner_long, at_on, goes_on}
-use Rattle.std.proofs.Common.{rules}
+use Rattle.coding.proofs.Rows.{small_child, starts, row_ends, room_ends, inner_paid, inner_long, at_on, goes_on}
 use Rattle.coding.proofs.+code_row.Goals as goal
 
 pub loop-i-init : goal.loop-i-init
@@ -32,10 +30,6 @@ pub put_code-requires : goal.put_code-requires
 put_code-requires t c =
     omega (arith, c.if-at-ge-NODES.false)
 
-pub own_binder-requires : goal.own_binder-requires
-own_binder-requires t c =
-    small_child _ _ _ c.node_in-n.ensures
-
 pub overflow_add-at : goal.overflow_add-at
 overflow_add-at t c =
     omega (arith, c.if-at-ge-NODES.false)
@@ -48,15 +42,6 @@ code_row-at-requires t c =
     (omega (arith, c.requires)) _ c.node_in-n.ensures _ c.when_last.ensures _ _ c.push-inner.ensures in
     let d = small_child _ _ _ c.node_in-n.ensures in
     omega (arith, h, l, d, c.if-at-ge-NODES.false, c.loop-i.invariant, c.requires)
-
-pub binder_of-requires : goal.binder_of-requires
-binder_of-requires t c =
-    record {
-      child_bound =
-          let d = small_child _ _ _ c.node_in-n.ensures in omega (arith, d, c.loop-i.invariant);
-      i_bound =
-          let d = small_child _ _ _ c.node_in-n.ensures in omega (arith, d, c.loop-i.invariant);
-    }
 
 pub push-depth-requires : goal.push-depth-requires
 push-depth-requires t c =

@@ -1,7 +1,6 @@
 -- The codes that are left fall.
-use Prim.Native.Nat.{ℕ, ◌-◌, ◌<◌}
-use native.Mathlib.Omega.{arith}
-use Rattle.coding.proofs.Rows.{small_child, Going, starts, row_ends, room_ends, inner_paid, inner_long, at_on, goes_on}
+use Prim.Native.Nat.{◌-◌}
+use Rattle.coding.proofs.Rows.{Going}
 use Rattle.coding.proofs.+code_row.Given as goal
 
 abbrev pub decreases-code_row : goal.decreases-code_row

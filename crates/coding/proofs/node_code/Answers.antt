@@ -1,6 +1,5 @@
 use Rattle.coding.specs.Coding.{script}
 use Rattle.coding.proofs.Numbers.{code_number, code_name, code_application, code_none}
-use Rattle.std.proofs.Common.{rules}
 use Rattle.coding.proofs.node_code.Goals as goal
 
 pub returns-in-18 : goal.returns-in-18

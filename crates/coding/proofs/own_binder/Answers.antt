@@ -1,21 +1,19 @@
-use native.Mathlib.Numerals.{add-one}
 use borrow.Author.Tests.{ne_eqb}
 use Rattle.machine.specs.Entries.{pick}
 use Rattle.coding.specs.Stack.{own_binder}
-use Rattle.std.proofs.Common.{rules}
 use Rattle.coding.proofs.own_binder.Goals as goal
 
 pub returns-in-4 : goal.returns-in-4
 unfolding own_binder pick
-returns-in-4 c = rw (c.in-4.is, add-one)
+returns-in-4 c = rw c.in-4.is
 
 pub returns-in-7 : goal.returns-in-7
 unfolding own_binder pick
-returns-in-7 c = rw (c.in-7.is, add-one)
+returns-in-7 c = rw c.in-7.is
 
 pub returns-in-33 : goal.returns-in-33
 unfolding own_binder pick
-returns-in-33 c = rw (c.in-33.is, add-one)
+returns-in-33 c = rw c.in-33.is
 
 pub returns-in_default : goal.returns-in_default
 unfolding own_binder pick

@@ -1,9 +1,8 @@
 use Rattle.coding.proofs.Stack.{no_push, one_push}
-use Rattle.std.proofs.Common.{rules}
 use Rattle.coding.proofs.push.Goals as goal
 
-pub returns-then-binder-eq0 : goal.returns-then-binder-eq0
-returns-then-binder-eq0 c = no_push _ _ _ c.if-binder-eq0.true
+pub returns-in-Some : goal.returns-in-Some
+returns-in-Some c = rw c.in-Some.is (one_push _ _ _ _ c.put.ensures)
 
-pub returns : goal.returns
-returns c = one_push _ _ _ _ c.if-binder-eq0.false c.put.ensures
+pub returns-in-None : goal.returns-in-None
+returns-in-None c = rw c.in-None.is (no_push _ _)

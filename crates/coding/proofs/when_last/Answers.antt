@@ -1,7 +1,6 @@
 use borrow.Author.Tests.{eq-eqb, ne_eqb}
 use Rattle.machine.specs.Entries.{pick}
 use Rattle.coding.specs.Stack.{when_last}
-use Rattle.std.proofs.Common.{rules}
 use Rattle.coding.proofs.when_last.Goals as goal
 
 pub returns-then-next-eq0 : goal.returns-then-next-eq0

@@ -1,6 +1,5 @@
 use native.Mathlib.Omega.{arith}
 use Rattle.coding.proofs.Rows.{small_first, too_short, all_coded}
-use Rattle.std.proofs.Common.{rules}
 use Rattle.coding.proofs.write_codes.Goals as goal
 
 pub returns-then-scopes-lt-BINDERS : goal.returns-then-scopes-lt-BINDERS

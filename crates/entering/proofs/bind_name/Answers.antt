@@ -5,8 +5,8 @@ use Rattle.entering.proofs.bind_name.Goals as goal
 pub returns-then-taken-limit : goal.returns-then-taken-limit
 returns-then-taken-limit c =
     record {
-      w_after = (λ t v k w o. define_some _ _ _ _ _ _ c.if-taken-limit.true _ _ c.add_binding.ensures c.bound-after.ensures);
-      units_value = rw c.bound-after.ensures;
+      w_after = (λ t v k w o. define_some _ _ _ _ _ _ c.if-taken-limit.true _ c.add_binding.ensures);
+      units_value = refl;
     }
 
 pub returns-else-taken-limit : goal.returns-else-taken-limit

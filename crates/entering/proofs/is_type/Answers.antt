@@ -1,4 +1,4 @@
-use borrow.Author.Tests.{lt-ltb, le-ltb, eq-eqb, ne_eqb}
+use borrow.Author.Tests.{eq-eqb, ne_eqb, lt-ltb, le-ltb, lt-leb}
 use Rattle.machine.specs.Entries.{pick}
 use Rattle.machine.specs.Leaves.{is_type}
 use Rattle.entering.proofs.is_type.Goals as goal
@@ -7,10 +7,10 @@ pub returns-then-kind-eq-VEC : goal.returns-then-kind-eq-VEC
 unfolding is_type pick
 returns-then-kind-eq-VEC c = rw (eq-eqb _ 26 c.if-kind-eq-VEC.true)
 
-pub returns-then-kind-lt-FIRST_TYPE : goal.returns-then-kind-lt-FIRST_TYPE
+pub returns-then-kind-ge-BOOL : goal.returns-then-kind-ge-BOOL
 unfolding is_type pick
-returns-then-kind-lt-FIRST_TYPE c = rw (ne_eqb _ 26 c.if-kind-eq-VEC.false, lt-ltb _ _ c.if-kind-lt-FIRST_TYPE.true)
+returns-then-kind-ge-BOOL c = rw (ne_eqb _ 26 c.if-kind-eq-VEC.false, le-ltb _ _ c.if-kind-ge-BOOL.true)
 
-pub returns : goal.returns
+pub returns-else-kind-ge-BOOL : goal.returns-else-kind-ge-BOOL
 unfolding is_type pick
-returns c = rw (ne_eqb _ 26 c.if-kind-eq-VEC.false, le-ltb _ _ c.if-kind-lt-FIRST_TYPE.false)
+returns-else-kind-ge-BOOL c = rw (ne_eqb _ 26 c.if-kind-eq-VEC.false, lt-ltb _ _ c.if-kind-ge-BOOL.false, lt-leb _ _ c.if-kind-ge-BOOL.false)

@@ -28,13 +28,13 @@ returns-then-not-has_room c =
 pub put_cells-requires : goal.put_cells-requires
 put_cells-requires c = room_word _ _ _ c.has_room.ensures c.if-not-has_room.false-raw (search rules)
 
-pub with_cells-after-requires : goal.with_cells-after-requires
-with_cells-after-requires c = room_word _ _ _ c.has_room.ensures c.if-not-has_room.false-raw (search rules)
+pub overflow_add-counts : goal.overflow_add-counts
+overflow_add-counts c = record { fits = room_word _ _ _ c.has_room.ensures c.if-not-has_room.false-raw (search rules) }
 
 pub returns : goal.returns
 returns c =
     record {
-      w_after = (λ t v b w o. allocate_some _ _ _ _ c.if-size-ne-NUMBER.false c.if-n-ge-FIRST_BELOW.false _ c.has_room.ensures (not-false c.has_room.result c.if-not-has_room.false-raw) _ _ _ _
-          c.fresh_cell.ensures c.put_cells.ensures c.closure_word-block.ensures c.with_cells-after.ensures);
-      units_value = rw c.with_cells-after.ensures;
+      w_after = (λ t v b w o. allocate_some _ _ _ _ c.if-size-ne-NUMBER.false c.if-n-ge-FIRST_BELOW.false _ c.has_room.ensures (not-false c.has_room.result c.if-not-has_room.false-raw) _ _ _
+          c.fresh_cell.ensures c.put_cells.ensures c.closure_word-block.ensures);
+      units_value = refl;
     }

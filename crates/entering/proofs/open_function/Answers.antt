@@ -5,7 +5,7 @@ use Rattle.entering.proofs.open_function.Goals as goal
 pub returns-in-1 : goal.returns-in-1
 returns-in-1 c =
     record {
-      by_index = (λ v k o. c.enter_call.ensures.by_index v k o ∙ function_plain _ _ _ _ _ _ _ _ c.node_of-node.ensures c.in-1.is _ c.env_of.ensures);
+      by_index = (λ v k o. c.enter_call.ensures.by_index v k o ∙ function_plain _ _ _ _ _ _ _ _ c.node_of-node.ensures c.in-1.is _ c.env_of-env.ensures);
       units_value = c.enter_call.ensures.units_value;
     }
 

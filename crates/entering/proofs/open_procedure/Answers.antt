@@ -5,7 +5,7 @@ use Rattle.entering.proofs.open_procedure.Goals as goal
 pub returns-in-3 : goal.returns-in-3
 returns-in-3 c =
     record {
-      by_index = (λ v k o. c.enter_call.ensures.by_index v k o ∙ procedure_plain _ _ _ _ _ _ _ _ c.node_of-node.ensures c.in-3.is _ c.env_of.ensures);
+      by_index = (λ v k o. c.enter_call.ensures.by_index v k o ∙ procedure_plain _ _ _ _ _ _ _ _ c.node_of-node.ensures c.in-3.is _ c.env_of-env.ensures);
       units_value = c.enter_call.ensures.units_value;
     }
 

@@ -1,17 +1,17 @@
 use borrow.Author.Tests.{eq-eqb, ne_eqb}
 use Rattle.machine.specs.Entries.{pick}
 use Rattle.machine.specs.Leaves.{address_of}
-use Rattle.stores.proofs.Laws.{if_not_value}
+use Rattle.stores.proofs.Laws.{exit, end_passes}
 use Rattle.stores.proofs.address_of.Goals as goal
 
-pub returns-then-tag-eq-ADDRESS : goal.returns-then-tag-eq-ADDRESS
+pub returns-in_err-found : goal.returns-in_err-found
 unfolding address_of pick
-returns-then-tag-eq-ADDRESS c = rw (← c.bound_to-found.ensures, c.in-Value.is, eq-eqb _ 5 c.if-tag-eq-ADDRESS.true)
+returns-in_err-found c = rw (exit _ _ c.from_residual.ensures.1, ← c.in_err-found.ensures) (end_passes _ _)
 
-pub returns-else-tag-eq-ADDRESS : goal.returns-else-tag-eq-ADDRESS
+pub returns-then-found-eq-ADDRESS : goal.returns-then-found-eq-ADDRESS
 unfolding address_of pick
-returns-else-tag-eq-ADDRESS c = rw (← c.bound_to-found.ensures, c.in-Value.is, ne_eqb _ 5 c.if-tag-eq-ADDRESS.false)
+returns-then-found-eq-ADDRESS c = rw (← c.in_ok-found.ensures, eq-eqb _ 5 c.if-found-eq-ADDRESS.true)
 
-pub returns-in_default : goal.returns-in_default
+pub returns-else-found-eq-ADDRESS : goal.returns-else-found-eq-ADDRESS
 unfolding address_of pick
-returns-in_default c = rw (← c.bound_to-found.ensures) (if_not_value _ c.in_default.not-Value _)
+returns-else-found-eq-ADDRESS c = rw (← c.in_ok-found.ensures, ne_eqb _ 5 c.if-found-eq-ADDRESS.false)

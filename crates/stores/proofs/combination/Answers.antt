@@ -4,23 +4,23 @@ use Rattle.machine.specs.Leaves.{combined}
 use Rattle.stores.proofs.Laws.{kept}
 use Rattle.stores.proofs.combination.Goals as goal
 
-pub returns-then-operator-eq3 : goal.returns-then-operator-eq3
+pub returns-then-operator-eq-NOT : goal.returns-then-operator-eq-NOT
 unfolding combined pick
-returns-then-operator-eq3 c = rw (eq-eqb _ 3 c.if-operator-eq3.true)
+returns-then-operator-eq-NOT c = rw (eq-eqb _ 3 c.if-operator-eq-NOT.true)
 
 pub returns-then-row-ne-NUMBER : goal.returns-then-row-ne-NUMBER
 unfolding combined pick
-returns-then-row-ne-NUMBER c = rw (ne_eqb _ 3 c.if-operator-eq3.false, ne_eqb _ 0 c.if-row-ne-NUMBER.true)
+returns-then-row-ne-NUMBER c = rw (ne_eqb _ 3 c.if-operator-eq-NOT.false, ne_eqb _ 0 c.if-row-ne-NUMBER.true)
 
 pub returns-then-second-ne-NUMBER : goal.returns-then-second-ne-NUMBER
 unfolding combined pick
-returns-then-second-ne-NUMBER c = rw (ne_eqb _ 3 c.if-operator-eq3.false, eq-eqb _ 0 c.if-row-ne-NUMBER.false, ne_eqb _ 0 c.if-second-ne-NUMBER.true)
+returns-then-second-ne-NUMBER c = rw (ne_eqb _ 3 c.if-operator-eq-NOT.false, eq-eqb _ 0 c.if-row-ne-NUMBER.false, ne_eqb _ 0 c.if-second-ne-NUMBER.true)
 
 pub returns : goal.returns
 unfolding combined pick
 returns c =
     rw (
-      ne_eqb _ 3 c.if-operator-eq3.false,
+      ne_eqb _ 3 c.if-operator-eq-NOT.false,
       eq-eqb _ 0 c.if-row-ne-NUMBER.false,
       eq-eqb _ 0 c.if-second-ne-NUMBER.false,
       ← kept c.from_word-a.result _ (record {

@@ -1,11 +1,11 @@
 use Rattle.machine.specs.Leaves.{element_value}
-use Rattle.stores.proofs.Laws.{if_not_value}
+use Rattle.stores.proofs.Laws.{exit, end_passes}
 use Rattle.stores.proofs.element_value.Goals as goal
 
-pub returns-in-Value : goal.returns-in-Value
+pub returns-in_err-cell : goal.returns-in_err-cell
 unfolding element_value
-returns-in-Value c = rw (← c.element_of-found.ensures, c.in-Value.is, c.cell_value.ensures)
+returns-in_err-cell c = rw (exit _ _ c.from_residual.ensures.1, ← c.in_err-cell.ensures) (end_passes _ _)
 
-pub returns-in_default : goal.returns-in_default
+pub returns : goal.returns
 unfolding element_value
-returns-in_default c = rw (← c.element_of-found.ensures) (if_not_value _ c.in_default.not-Value _)
+returns c = rw (← c.in_ok-cell.ensures, c.cell_value.ensures)

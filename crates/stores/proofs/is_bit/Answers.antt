@@ -3,10 +3,10 @@ use Rattle.machine.specs.Entries.{pick}
 use Rattle.stores.specs.Choices.{is_bit}
 use Rattle.stores.proofs.is_bit.Goals as goal
 
-pub returns-then-tag-eq-NUMBER : goal.returns-then-tag-eq-NUMBER
+pub returns-then-value-eq-NUMBER : goal.returns-then-value-eq-NUMBER
 unfolding is_bit pick
-returns-then-tag-eq-NUMBER c = rw (eq-eqb _ 0 c.if-tag-eq-NUMBER.true)
+returns-then-value-eq-NUMBER c = rw (eq-eqb _ 0 c.if-value-eq-NUMBER.true)
 
-pub returns-else-tag-eq-NUMBER : goal.returns-else-tag-eq-NUMBER
+pub returns-else-value-eq-NUMBER : goal.returns-else-value-eq-NUMBER
 unfolding is_bit pick
-returns-else-tag-eq-NUMBER c = rw (ne_eqb _ 0 c.if-tag-eq-NUMBER.false)
+returns-else-value-eq-NUMBER c = rw (ne_eqb _ 0 c.if-value-eq-NUMBER.false)

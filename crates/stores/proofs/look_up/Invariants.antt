@@ -1,9 +1,7 @@
+use Prim.Native.Nat.{◌-◌}
 use mathlib.Core.Path.{◌≡◌}
 use Rattle.machine.specs.Leaves.{walk}
 use Rattle.stores.proofs.look_up.Given as goal
 
-abbrev pub invariant-loop-left : goal.invariant-loop-left
-invariant-loop-left l = walk l.bindings l.c l.left l.at ≡ walk l.bindings l.c l.n l.env
-
-abbrev pub decreases-loop-left : goal.decreases-loop-left
-decreases-loop-left l = l.left
+abbrev pub invariant-loop : goal.invariant-loop
+invariant-loop l = walk l.bindings l.c (l.n - l.counter) l.at ≡ walk l.bindings l.c l.n l.env

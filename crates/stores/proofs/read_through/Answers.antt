@@ -3,10 +3,10 @@ use Rattle.machine.specs.Entries.{pick}
 use Rattle.machine.specs.Leaves.{read_through}
 use Rattle.stores.proofs.read_through.Goals as goal
 
-pub returns-then-tag-ne-ADDRESS : goal.returns-then-tag-ne-ADDRESS
+pub returns-then-value-ne-ADDRESS : goal.returns-then-value-ne-ADDRESS
 unfolding read_through pick
-returns-then-tag-ne-ADDRESS c = rw (ne_eqb _ 5 c.if-tag-ne-ADDRESS.true)
+returns-then-value-ne-ADDRESS c = rw (ne_eqb _ 5 c.if-value-ne-ADDRESS.true)
 
 pub returns : goal.returns
 unfolding read_through pick
-returns c = rw (eq-eqb _ 5 c.if-tag-ne-ADDRESS.false) c.cell_value.ensures
+returns c = rw (eq-eqb _ 5 c.if-value-ne-ADDRESS.false) c.cell_value.ensures

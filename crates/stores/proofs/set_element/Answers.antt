@@ -1,17 +1,13 @@
 use mathlib.Core.Path.{refl, ◌∙◌}
-use Rattle.stores.proofs.Laws.{element_set, element_none}
+use Rattle.stores.proofs.Laws.{exit, element_set, element_none, end_no_value}
 use Rattle.stores.proofs.set_element.Goals as goal
 
-pub returns-in-Value : goal.returns-in-Value
-returns-in-Value c =
-    record {
-      by_index = (λ b w o. c.store_cell.ensures.by_index b w o ∙ element_set _ _ _ _ _ _ _ c.element_of-found.ensures _ _ c.in-Value.is);
-      units_value = c.store_cell.ensures.units_value;
-    }
+pub returns-in_err-cell : goal.returns-in_err-cell
+returns-in_err-cell c = λ b w o. rw (exit _ _ c.from_residual.ensures.1) (element_none _ _ _ _ _ _ _ c.in_err-cell.ensures (end_no_value _))
 
-pub returns-in_default : goal.returns-in_default
-returns-in_default c =
-    record {
-      by_index = (λ b w o. element_none _ _ _ _ _ _ _ c.element_of-found.ensures c.in_default.not-Value);
-      units_value = refl;
-    }
+pub returns-in_err-store_cell : goal.returns-in_err-store_cell
+returns-in_err-store_cell c = λ b w o. rw (exit _ _ c.from_residual-in_err-store_cell.ensures.1)
+    (c.in_err-store_cell.ensures b w o _ ∙ element_set _ _ _ _ _ _ _ c.in_ok-cell.ensures _ _ refl)
+
+pub returns : goal.returns
+returns c = λ b w o. c.in_ok-store_cell.ensures b w o _ ∙ element_set _ _ _ _ _ _ _ c.in_ok-cell.ensures _ _ refl
