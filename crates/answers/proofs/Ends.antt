@@ -1,6 +1,6 @@
 -- The answer to a run's end.
 use mathlib.Core.Path.{◌≡◌, refl, sym, ◌∙◌, ap}
-use mathlib.Core.Bool.{Bool, true, false}
+use mathlib.Core.Bool.{false}
 use mathlib.Core.Option.{none, some}
 use Prim.Native.Nat.{ℕ, ◌-◌}
 use lib.Dec.{eqb}
@@ -66,18 +66,6 @@ module _ (f : ℕ) (n : Counts) where
   reported_counts known_none k = absurd (k refl)
 
 -- ---- what the code tests
-
--- no test on the way holds
-skip : {A : Type 0} (n k : ℕ) → (n ≡ k → ⊥) → (x : Unit {0} → A) (y : Unit {0} → A) → pick (eqb n k) x y ≡ y tt
-unfolding pick
-skip n k h x y = ap (λ t. pick t x y) (ne_eqb n k h)
-
-pub stopped_last : (n p : ℕ) → (n ≡ 20 → ⊥) → (n ≡ 21 → ⊥) → (n ≡ 22 → ⊥) → (n ≡ 23 → ⊥) → (n ≡ 24 → ⊥) → (n ≡ 25 → ⊥) → (n ≡ 26 → ⊥) → (n ≡ 28 → ⊥) → (n ≡ 29 → ⊥) →
-    «Type» 0 ≡ stopped_by n p
-unfolding stopped_by
-stopped_last n p a b c d e f g h i =
-    sym
-    (skip n 20 a _ _ ∙ (skip n 21 b _ _ ∙ (skip n 22 c _ _ ∙ (skip n 23 d _ _ ∙ (skip n 24 e _ _ ∙ (skip n 25 f _ _ ∙ (skip n 26 g _ _ ∙ (skip n 28 h _ _ ∙ skip n 29 i _ _))))))))
 
 pub reported_refused : {a : Answer} {x : ℕ} (f : ℕ) (e : Ending) (n : Counts) {r : Report} → a ≡ ended e → x ≡ number_of (meant a) → x ≡ 9 → r ≡ refusal a → r ≡ reported f e n
 unfolding pick

@@ -1,5 +1,4 @@
 -- What each of RUN's answers means: document 01's answer for each case.
-use Rattle.std.specs.Prelude.{ℕ}
 use Rattle.language.specs.Answers.{LENGTH, LIMIT, TABLE, BYTE, NUMBER, TOKENS, SYNTAX, LEVEL, TYPE, DOUBLE, FUEL, DEPTH, CELLS, BINDINGS, OUTPUT, RANGE, ZERO, UNSET, SIZE, INDEX, limit, error, done, refused, stopped}
 use Rattle.language.specs.Answers as language
 use Rattle.language.specs.Promises.{Told}

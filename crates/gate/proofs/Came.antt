@@ -6,11 +6,10 @@ use lib.IntN.{ℤ}
 use Rattle.language.specs.Limits.{Limits}
 use Rattle.limits.specs.Cleared.{zeroed}
 use Rattle.machine.specs.State.{Ret, ret}
-use Rattle.machine.specs.declared.Bounds.{Bounds}
 use Rattle.machine.specs.declared.Evaluated.{Evaluated}
 use Rattle.answers.specs.declared.Report.{Report}
 use Rattle.answers.specs.Ended.{reported}
-use Rattle.gate.specs.Steps.{Came, came, cleared_after}
+use Rattle.gate.specs.Steps.{came, cleared_after}
 use Rattle.gate.specs.Lent.{limits_of}
 
 came_eq : {r r' : Report} {w w' b b' c c' : List ℕ} {o : List ℤ} → r ≡ r' → w ≡ w' → b ≡ b' → c ≡ c' → came r w b c o ≡ came r' w' b' c' o

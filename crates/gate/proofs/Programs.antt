@@ -2,12 +2,11 @@
 use mathlib.Core.Path.{◌≡◌, refl, sym, ◌∙◌, ap, subst}
 use mathlib.Core.Bool.{Bool, true, false}
 use mathlib.Core.List.{List, [], ◌∷◌}
-use Prim.Native.Nat.{ℕ, zero, suc, ◌+◌, ◌≤◌, ◌<◌}
-use native.Mathlib.Nat.{not-suc-le-zero, le_of_suc-le-suc}
-use native.Mathlib.Numerals.{add-one}
+use Prim.Native.Nat.{ℕ, zero, suc, ◌≤◌}
 use native.Mathlib.Omega.{arith}
 use lib.Dec.{ltb}
-use lib.ListN.{length, get_or, set, take, drop, replicate, get_or-eq_default}
+use lib.Seq.{take_at, drop_at, length-take-le}
+use lib.ListN.{length, get_or, take, drop, replicate, get_or-eq_default}
 use borrow.Author.Tests.{ltb-true, ltb-false}
 use Rattle.language.specs.Limits.{Limits}
 use Rattle.machine.specs.State.{Tables}
@@ -17,63 +16,33 @@ use Rattle.machine.specs.Shown.{program}
 use Rattle.coding.specs.Coding.{Blank, CodesWritten}
 use Rattle.gate.specs.Steps.{Came, cleared_after, copied, script_of, RightCodes, Programmed, RunCoded}
 
--- ---- copying, word by word
-
-later : (t : List ℕ) (i : ℕ) → get_or t (suc i) 0 ≡ get_or (drop 1 t) i 0
-later [] i = refl
-later (x ∷ t) i = refl
-
-copied_suc : (i : ℕ) (t p : List ℕ) → set (copied i t p) i (get_or t i 0) ≡ copied (suc i) t p
-unfolding copied
-copied_suc zero t [] = refl
-copied_suc zero t (x ∷ p) = refl
-copied_suc (suc i) t [] = refl
-copied_suc (suc i) t (x ∷ p) =
-    ap (λ (l : List ℕ). get_or t 0 0 ∷ l)
-    (ap (λ (v : ℕ). set (copied i (drop 1 t) p) i v) (later t i) ∙ copied_suc i (drop 1 t) p)
-
-pub copied_more : (i : ℕ) (t p q : List ℕ) (v : ℕ) → q ≡ copied i t p → v ≡ get_or t i 0 → set q i v ≡ copied (i + 1) t p
-copied_more i t p q v q-is v-is = rw (q-is, v-is, add-one i) (copied_suc i t p)
-
-pub copied_none : (t p : List ℕ) → p ≡ copied 0 t p
-unfolding copied
-copied_none t p = refl
-
-pub copied_all : (i n : ℕ) (t p q : List ℕ) → q ≡ copied i t p → i ≡ n → q ≡ copied n t p
-copied_all i n t p q q-is e = q-is ∙ ap (λ (k : ℕ). copied k t p) e
+-- ---- copying
 
 -- what stands in front, and what behind it
-copied_front : (n : ℕ) (t p : List ℕ) → n ≤ length t → n ≤ length p → take n (copied n t p) ≡ take n t
-unfolding copied
-copied_front zero t p h k = refl
-copied_front (suc n) [] p h k = absurd (not-suc-le-zero h)
-copied_front (suc n) (y ∷ t) [] h k = absurd (not-suc-le-zero k)
-copied_front (suc n) (y ∷ t) (x ∷ p) h k = ap (λ (l : List ℕ). y ∷ l) (copied_front n t p (le_of_suc-le-suc h) (le_of_suc-le-suc k))
+copied_front : (n : ℕ) (t p : List ℕ) → n ≤ length t → take n (copied n t p) ≡ take n t
+copied_front n t p h = take_at (take n t) (drop n p) n (length-take-le n t h)
 
-copied_behind : (n : ℕ) (t p : List ℕ) → drop n (copied n t p) ≡ drop n p
-unfolding copied
-copied_behind zero t p = refl
-copied_behind (suc n) t [] = refl
-copied_behind (suc n) t (x ∷ p) = copied_behind n (drop 1 t) p
+copied_behind : (n : ℕ) (t p : List ℕ) → n ≤ length t → drop n (copied n t p) ≡ drop n p
+copied_behind n t p h = drop_at (take n t) (drop n p) n (length-take-le n t h)
 
 -- ---- the program
 
-module _ (text tree prog prog₁ binders prog' : List ℕ) (copy : prog₁ ≡ copied 4096 tree prog) (wide : 4096 ≤ length binders)
+module _ (text tree prog prog₁ binders prog' : List ℕ) (long : 4096 ≤ length tree) (copy : prog₁ ≡ copied 4096 tree prog) (wide : 4096 ≤ length binders)
     (written : CodesWritten text prog₁ binders prog') where
-  front : 4096 ≤ length tree → 4096 ≤ length prog → tree_in prog₁ ≡ take 4096 tree
+  front : tree_in prog₁ ≡ take 4096 tree
   unfolding tree_in
-  front h k = ap (take 4096) copy ∙ copied_front 4096 tree prog h k
+  front = ap (take 4096) copy ∙ copied_front 4096 tree prog long
 
   blank : Blank prog → Blank prog₁
   unfolding Blank codes_in
-  blank b = λ i. ap (λ (l : List ℕ). get_or (take 4096 l) i 0) (ap (drop 4096) copy ∙ copied_behind 4096 tree prog) ∙ b i
+  blank b = λ i. ap (λ (l : List ℕ). get_or (take 4096 l) i 0) (ap (drop 4096) copy ∙ copied_behind 4096 tree prog long) ∙ b i
 
   pub programmed : Programmed text tree prog prog'
   programmed =
       record {
-        tree_is = λ h k. written.tree_kept ∙ front h k;
+        tree_is = λ h k. written.tree_kept ∙ front;
         codes_are = λ h k b i l.
-            subst (λ (t : List ℕ). get_or (codes_in prog') i 0 ≡ get_or (codes_of (script_of t text)) i 0) (front h k) (written.codes_are wide (blank b) i l);
+            subst (λ (t : List ℕ). get_or (codes_in prog') i 0 ≡ get_or (codes_of (script_of t text)) i 0) front (written.codes_are wide (blank b) i l);
       }
 
 -- ---- an array of zeros

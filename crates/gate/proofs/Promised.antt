@@ -2,7 +2,7 @@
 use mathlib.Core.Path.{◌≡◌, refl, sym, ◌∙◌, ap, subst}
 use mathlib.Core.Bool.{Bool, true, false, cond}
 use mathlib.Core.List.{List, [], ◌∷◌, ◌++◌, append_assoc}
-use mathlib.Core.Option.{Option, some}
+use mathlib.Core.Option.{some}
 use Prim.Native.Nat.{ℕ, ◌*◌, ◌≤◌}
 use native.Mathlib.Omega.{arith}
 use lib.Dec.{leb}
@@ -16,8 +16,8 @@ use Rattle.language.specs.Reading.{Reading}
 use Rattle.language.specs.Typing.{Typable}
 use Rattle.language.specs.Limits.{Limits, Admitted}
 use Rattle.language.specs.Rules.{start, run}
-use Rattle.language.specs.Outcome.{state_of, end_of}
-use Rattle.language.specs.Promises.{Verdict, typed, verdict_answer, text_bytes, tree_words, Lent, tree_table, large_enough, zeroed, holding, untouched, cleared, tree_after, Checked, Check, judged, Told, told, Ran, all_large, run_refuses, ran_with, Run, not_run, ran}
+use Rattle.language.specs.Outcome.{end_of}
+use Rattle.language.specs.Promises.{Verdict, typed, verdict_answer, text_bytes, tree_words, Lent, tree_table, large_enough, zeroed, holding, cleared, tree_after, Checked, Check, judged, Told, told, Ran, all_large, Run, not_run, ran}
 use Rattle.language.proofs.Reading.Shown.{room}
 use Rattle.nodes.specs.Trees.{Script, ReadAs}
 use Rattle.limits.specs.Cleared as limits
@@ -32,7 +32,7 @@ use Rattle.answers.specs.declared.Report.{Report}
 use Rattle.answers.specs.Answers.{meant, said}
 use Rattle.answers.specs.Ended.{ended, counted, reported}
 use Rattle.answers.proofs.Ends.{ended_meant, reported_counts}
-use Rattle.gate.specs.Steps.{Came, came, cleared_after, RunCoded}
+use Rattle.gate.specs.Steps.{came, cleared_after, RunCoded}
 use Rattle.gate.proofs.Programs.{right_all}
 use Rattle.gate.proofs.Tables.{both, fits_in, front_large, rest_large, cleared_append, cleared_kept, cleared_lent, word_of_tree}
 

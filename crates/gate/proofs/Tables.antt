@@ -2,12 +2,12 @@
 use mathlib.Core.Path.{◌≡◌, refl, sym, ◌∙◌, ap}
 use mathlib.Core.Bool.{Bool, true, false, cond}
 use mathlib.Core.List.{List, [], ◌∷◌, ◌++◌, append_assoc}
-use Prim.Native.Nat.{ℕ, zero, suc, ◌+◌, ◌-◌, ◌≤◌, ◌<◌}
+use Prim.Native.Nat.{ℕ, zero, suc, ◌+◌, ◌-◌, ◌≤◌}
 use native.Mathlib.Omega.{arith}
 use lib.Dec.{leb}
 use lib.ListN.{length, take, drop, get_or, replicate, length-append, length-replicate}
 use lib.Seq.{take_at}
-use borrow.Author.Tests.{leb-true, le-leb, lt-leb}
+use borrow.Author.Tests.{leb-true}
 use Rattle.language.specs.Promises.{Lent, large_enough, zeroed, holding, cleared}
 use Rattle.limits.specs.Cleared as limits
 use Rattle.limits.proofs.Cleared.{zeroed_is}
@@ -72,15 +72,3 @@ first_words n l t h =
 
 pub word_of_tree : (n : ℕ) (l t : List ℕ) → length l ≤ n → (j : ℕ) → get_or (take n (holding n l t)) j 0 ≡ get_or l j 0
 word_of_tree n l t h j = ap (λ w. get_or w j 0) (first_words n l t h) ∙ zeros_behind l (n - length l) j
-
--- ---- the code's tests
-
--- one table more, of which n entries are asked
-pub tested : {n n' : ℕ} (m : ℕ) {b t u : Bool} → b ≡ cond (leb n m) t false → n ≡ n' → t ≡ u → b ≡ cond (leb n' m) u false
-tested {n' = k'} m {t = t} e p q = e ∙ (ap (λ k. cond (leb k m) t false) p ∙ ap (λ v. cond (leb k' m) v false) q)
-
-pub enough : (n m : ℕ) (b : Bool) → n ≤ m → b ≡ cond (leb n m) b false
-enough n m b h = sym (ap (λ t. cond t b false) (le-leb n m h))
-
-pub too_few : (n m : ℕ) (b : Bool) → m < n → false ≡ cond (leb n m) b false
-too_few n m b h = sym (ap (λ t. cond t b false) (lt-leb n m h))

@@ -1,20 +1,21 @@
 -- RUN's promise on each way through its code.
 use mathlib.Core.Path.{◌≡◌, refl, sym, ◌∙◌, ap, subst}
 use mathlib.Core.Bool.{Bool, true, false}
-use mathlib.Core.List.{List, [], ◌∷◌, ◌++◌}
+use mathlib.Core.List.{List, [], ◌∷◌}
+use Rattle.std.specs.Prelude.{Option, None, Some, Ok, Err}
 use Prim.Native.Nat.{ℕ, ◌≤◌, ◌<◌}
 use native.Mathlib.Omega.{arith}
 use lib.Dec.{leb}
 use lib.IntN.{ℤ}
 use lib.ListN.{length, take}
-use Rattle.language.specs.Answers.{LENGTH, LIMIT, TABLE, BYTE, NUMBER, TOKENS, SYNTAX, LEVEL, TYPE, DOUBLE, FUEL, DEPTH, CELLS, BINDINGS, OUTPUT, RANGE, ZERO, UNSET, SIZE, INDEX, limit, error, done, refused, stopped, number_of}
-use Rattle.language.specs.Answers as language
+use Rattle.language.specs.Answers.{done}
 use Rattle.language.specs.Limits.{Limits, Admitted}
 use Rattle.language.specs.Promises.{text_bytes, Check, Ran, all_large, Run, too_much}
 use Rattle.limits.specs.Cleared as limits
 use Rattle.machine.specs.Shown.{fresh}
-use Rattle.verdict.specs.declared.Verdict.{Verdict}
-use Rattle.verdict.specs.Answers.{lent, checked}
+use Rattle.verdict.specs.declared.Refusal.{Refusal}
+use Rattle.verdict.specs.declared.Refusal.TheVariants as reason
+use Rattle.verdict.specs.Answers.{Verdict, lent, checked}
 use Rattle.verdict.specs.Answers as verdict
 use Rattle.answers.specs.declared.Answer.{Answer}
 use Rattle.answers.specs.declared.Answer.TheVariants.{Length, Limit, Table}
@@ -22,35 +23,21 @@ use Rattle.answers.specs.declared.Report.{Report}
 use Rattle.answers.specs.Answers.{meant, refusal}
 use Rattle.gate.specs.Lent.{working, stores, left}
 use Rattle.gate.specs.declared.Within.{Within}
-use Rattle.gate.specs.declared.Admission.{Admission}
-use Rattle.gate.specs.declared.Admission.TheVariants.{Made, Beyond}
 use Rattle.gate.specs.Steps.{numbers_of, Admits, came, RunCoded}
 use Rattle.gate.proofs.Tables.{both, fits_in}
 use Rattle.gate.proofs.Promised.{refused_text, accepted_text}
 
--- 0 is accepted, and nothing else is
-number_done : (a : language.Answer) → number_of a ≡ 0 → a ≡ done
-number_done done h = refl
-number_done (refused LENGTH p) h = absurd (omega arith)
-number_done (refused LIMIT p) h = absurd (omega arith)
-number_done (refused TABLE p) h = absurd (omega arith)
-number_done (refused BYTE p) h = absurd (omega arith)
-number_done (refused NUMBER p) h = absurd (omega arith)
-number_done (refused TOKENS p) h = absurd (omega arith)
-number_done (refused SYNTAX p) h = absurd (omega arith)
-number_done (refused LEVEL p) h = absurd (omega arith)
-number_done (refused TYPE p) h = absurd (omega arith)
-number_done (refused DOUBLE p) h = absurd (omega arith)
-number_done (stopped (limit FUEL) p) h = absurd (omega arith)
-number_done (stopped (limit DEPTH) p) h = absurd (omega arith)
-number_done (stopped (limit CELLS) p) h = absurd (omega arith)
-number_done (stopped (limit BINDINGS) p) h = absurd (omega arith)
-number_done (stopped (limit OUTPUT) p) h = absurd (omega arith)
-number_done (stopped (error RANGE) p) h = absurd (omega arith)
-number_done (stopped (error ZERO) p) h = absurd (omega arith)
-number_done (stopped (error (UNSET m)) p) h = absurd (omega arith)
-number_done (stopped (error SIZE) p) h = absurd (omega arith)
-number_done (stopped (error INDEX) p) h = absurd (omega arith)
+-- no refusal is an acceptance
+not_done : (reason : Refusal) → ¬ (verdict.refusal_meant reason ≡ done)
+not_done reason.Length h = cc
+not_done reason.Table h = cc
+not_done (reason.Byte p) h = cc
+not_done (reason.Number p) h = cc
+not_done (reason.Tokens p) h = cc
+not_done (reason.Syntax p) h = cc
+not_done (reason.Level p) h = cc
+not_done (reason.«Type» p) h = cc
+not_done (reason.Double p) h = cc
 
 module _ (L : Limits) (text tree words stack scopes notes waiting bindings cells : List ℕ) (output : List ℤ) where
   abbrev Promise : Ran → Type 0
@@ -80,22 +67,22 @@ module _ (L : Limits) (text tree words stack scopes notes waiting bindings cells
           omega arith
 
       module _ (fits : large ≡ true) (v : Verdict) {tree' words' stack' scopes' notes' : List ℕ}
-          (judged : Check text tree (lent words stack scopes notes) (checked v tree' words' stack' scopes' notes'))
-          (a : Answer) (answers : meant a ≡ verdict.meant v) where
-        pub refused_run : {r : Report} {k : ℕ} {w : List ℕ} → k ≡ number_of (meant a) → (k ≡ 0 → ⊥) → w ≡ limits.zeroed 0 8192 waiting → r ≡ refusal a →
-            Promise (left r tree' words' stack' scopes' notes' w bindings cells output)
-        refused_run {r} {k} {w} n z c e =
-            let away : ¬ (verdict.meant v ≡ done) = λ d. z (n ∙ ap number_of (answers ∙ d)) in
+          (judged : Check text tree (lent words stack scopes notes) (checked v tree' words' stack' scopes' notes')) where
+        pub refused_run : {r : Report} {reason : Refusal} (a : Answer) {w : List ℕ} → v ≡ Err reason → meant a ≡ verdict.refusal_meant reason → w ≡ limits.zeroed 0 8192 waiting →
+            r ≡ refusal a → Promise (left r tree' words' stack' scopes' notes' w bindings cells output)
+        refused_run {r} {reason} a {w} is m c e =
+            let away : ¬ (verdict.meant v ≡ done) = λ d. not_done reason (sym (ap verdict.meant is) ∙ d) in
+            let answers : meant a ≡ verdict.meant v = m ∙ sym (ap verdict.meant is) in
             let h = refused_text 8192 refl L text tree (lent words stack scopes notes) waiting bindings cells output short admitted (sym tested ∙ fits) judged away c in
             subst (λ r. Promise (left r tree' words' stack' scopes' notes' w bindings cells output)) (sym e)
             (subst (λ b. Promise (record { says = record { answer = b; units = 0; bindings = 0; cells = 0; numbers = 0 }; tree = tree'; works = words' ∷ stack' ∷ scopes' ∷ notes' ∷ w ∷ []; stores = bindings ∷ cells ∷ []; output = output })) (sym answers) h)
 
-        pub accepted_run : {r : Report} {k : ℕ} {w b c : List ℕ} {o : List ℤ} → k ≡ number_of (meant a) → k ≡ 0 →
+        pub accepted_run : {r : Report} {u : Unit {0}} {w b c : List ℕ} {o : List ℤ} → v ≡ Ok u →
             RunCoded 8192 L text (take 4096 tree') (fresh L.fuel bindings cells output waiting) (came r w b c o) →
             Promise (left r tree' words' stack' scopes' notes' w b c o)
-        accepted_run n z e =
+        accepted_run is e =
             accepted_text 8192 refl L text tree (lent words stack scopes notes) waiting bindings cells output short admitted (sym tested ∙ fits) judged
-            (sym answers ∙ number_done (meant a) (sym n ∙ z)) e
+            (ap verdict.meant is) e
 
 -- a promise within limits is one within the same limits, as given
 pub within_given : {K L : Limits} (text tree words stack scopes notes waiting bindings cells : List ℕ) (output : List ℤ) {x : Ran} → K ≡ L →
@@ -104,11 +91,11 @@ pub within_given : {K L : Limits} (text tree words stack scopes notes waiting bi
 within_given text tree words stack scopes notes waiting bindings cells output {x} e h =
     subst (λ M. Run M text tree (working words stack scopes notes waiting) (stores M bindings cells) output x) e h
 
-pub made_limits : {L : Limits} {a : Admission} (w : Within) → Admits L a → a ≡ Made w → Admitted L × (numbers_of w ≡ L)
+pub made_limits : {L : Limits} {a : Option Within} (w : Within) → Admits L a → a ≡ Some w → Admitted L × (numbers_of w ≡ L)
 made_limits {L} w h e = subst (Admits L) e h
 
-pub made_admitted : (L : Limits) {a : Admission} (w : Within) → Admits L a → a ≡ Made w → Admitted (numbers_of w)
+pub made_admitted : (L : Limits) {a : Option Within} (w : Within) → Admits L a → a ≡ Some w → Admitted (numbers_of w)
 made_admitted L w h e = let x = made_limits w h e in subst Admitted (sym x.1) x.0
 
-pub not_made : {L : Limits} {a : Admission} → Admits L a → a ≡ Beyond → ¬ Admitted L
+pub not_made : {L : Limits} {a : Option Within} → Admits L a → a ≡ None → ¬ Admitted L
 not_made {L} h e = subst (Admits L) e h

@@ -1,5 +1,5 @@
 -- What the steps of RUN come to.
-use Rattle.std.specs.Prelude.{ℕ, zero, suc, ◌*◌, ◌≤◌, ◌<◌, ◌≡◌, List, [], ◌∷◌, ℤ, length, get_or, take, drop}
+use Rattle.std.specs.Prelude.{ℕ, ◌*◌, ◌≤◌, ◌<◌, ◌≡◌, List, ◌++◌, ℤ, length, get_or, take, drop, Option, Some, None}
 use Rattle.language.specs.Limits.{Limits, Admitted}
 use Rattle.limits.specs.Cleared.{zeroed}
 use Rattle.nodes.specs.Trees.{Script}
@@ -11,24 +11,22 @@ use Rattle.coding.specs.Coding.{Blank}
 use Rattle.answers.specs.declared.Report.{Report}
 use Rattle.answers.specs.Ended.{reported}
 use Rattle.gate.specs.declared.Within.{Within}
-use Rattle.gate.specs.declared.Admission.{Admission}
-use Rattle.gate.specs.declared.Admission.TheVariants.{Made, Beyond}
 
 -- the numbers of limits that were made
 abbrev pub numbers_of : Within → Limits
 numbers_of w =
     record {
-      fuel = w.fuel.units;
-      depth = w.depth.unended;
-      bindings = w.bindings.entries;
-      cells = w.cells.entries;
-      output = w.output.entries;
+      fuel = w.fuel.number;
+      depth = w.depth.number;
+      bindings = w.bindings.number;
+      cells = w.cells.number;
+      output = w.output.number;
     }
 
 -- limits are made exactly where they are admitted
-abbrev pub Admits : Limits → Admission → Type 0
-Admits L (Made w) = Admitted L × (numbers_of w ≡ L)
-Admits L Beyond = ¬ Admitted L
+abbrev pub Admits : Limits → Option Within → Type 0
+Admits L (Some w) = Admitted L × (numbers_of w ≡ L)
+Admits L None = ¬ Admitted L
 
 -- what is reported of a run, and what its tables then hold
 pub record Came : Type 0 where
@@ -48,10 +46,8 @@ cleared_after n L r =
     (zeroed 0 (2 * L.cells) r.after.cells) r.after.output
 
 -- the first n words of t in the place of those of p
-unfoldable pub copied : (n : ℕ) (t p : List ℕ) → List ℕ
-copied zero t p = p
-copied (suc n) t [] = []
-copied (suc n) t (x ∷ p) = get_or t 0 0 ∷ copied n (drop 1 t) p
+abbrev pub copied : (n : ℕ) (t p : List ℕ) → List ℕ
+copied n t p = take n t ++ drop n p
 
 -- tree words and the text that they point into
 abbrev pub script_of : (tree text : List ℕ) → Script

@@ -1,16 +1,18 @@
 -- Tables that are cleared, lent in part and cleared again.
 use Prim.Native.Nat.{ℕ, ◌≤◌}
-use mathlib.Core.Path.{◌≡◌, refl, sym, ap, ◌∙◌}
+use mathlib.Core.Path.{◌≡◌, sym, ap, ◌∙◌}
 use mathlib.Core.List.{List, ◌++◌}
+use Rattle.std.specs.Prelude.{Result, Ok, Err}
 use native.Mathlib.Omega.{arith}
-use lib.ListN.{length, take, drop, replicate, length-append}
+use lib.ListN.{length, take, drop, replicate}
 use lib.Seq.{length-take-le, length_front, drop_at}
-use borrow.Author.Tests.{eq-eqb, ne_eqb}
 use Rattle.limits.specs.Cleared.{zeroed}
 use Rattle.limits.proofs.Cleared.{length_zeroed, zeroed_is, take_zeroed, drop_zeroed}
 use Rattle.judge.specs.Judge.{verdict_of}
-use Rattle.verdict.specs.declared.Verdict.{Verdict}
-use Rattle.verdict.specs.Judging.{refused_node, Settled, verdict_at, tree_left, Judging}
+use Rattle.judging.specs.Flaws.{judgement}
+use Rattle.judging.specs.declared.Flaw.{Flaw}
+use Rattle.verdict.specs.declared.Refusal.{Refusal}
+use Rattle.verdict.specs.Judging.{refused_node, Settled, refusal_at, Judging}
 
 module _ (k : ℕ) (l : List ℕ) (h : k ≤ length l) where
   -- the part of a table that is lent
@@ -27,8 +29,8 @@ module _ (k : ℕ) (l : List ℕ) (h : k ≤ length l) where
       ∙ sym (zeroed_is 0 k l h)
 
 -- the judge over two such tables
-pub settled : (k : ℕ) (x t : List ℕ) (n r : ℕ) (s₀ n₀ s₁ n₁ e f s₂ n₂ : List ℕ) → k ≤ length s₀ → k ≤ length n₀ → s₁ ≡ zeroed 0 k s₀ → n₁ ≡ zeroed 0 k n₀ →
-    r ≡ verdict_of x t n (take k s₁) (take k n₁) → length e ≡ length (take k s₁) → length f ≡ length (take k n₁) →
+pub settled : (k : ℕ) (x t : List ℕ) (n : ℕ) (r : Result (Unit {0}) Flaw) (s₀ n₀ s₁ n₁ e f s₂ n₂ : List ℕ) → k ≤ length s₀ → k ≤ length n₀ → s₁ ≡ zeroed 0 k s₀ → n₁ ≡ zeroed 0 k n₀ →
+    r ≡ judgement (verdict_of x t n (take k s₁) (take k n₁)) → length e ≡ length (take k s₁) → length f ≡ length (take k n₁) →
     s₂ ≡ zeroed 0 k (e ++ drop k s₁) → n₂ ≡ zeroed 0 k (f ++ drop k n₁) → Settled k x t n s₀ n₀ r s₂ n₂
 unfolding refused_node
 settled k x t n r s₀ n₀ s₁ n₁ e f s₂ n₂ hs hn zs zn a le lf es en =
@@ -39,23 +41,21 @@ settled k x t n r s₀ n₀ s₁ n₁ e f s₂ n₂ hs hn zs zn a le lf es en =
     }
 
 -- the tree is accepted and stays, or a node is refused and it is wiped
-module _ {k : ℕ} {x t : List ℕ} {n r : ℕ} {s₀ n₀ s₁ n₁ : List ℕ} (h : Settled k x (take k t) n s₀ n₀ r s₁ n₁) {v : Verdict} (e : v ≡ verdict_at (take k t) r) where
-  pub stays : r ≡ 0 → Judging k x t n s₀ n₀ v t s₁ n₁
-  unfolding tree_left
+module _ {k : ℕ} {x t : List ℕ} {n : ℕ} {r : Result (Unit {0}) Flaw} {s₀ n₀ s₁ n₁ : List ℕ} (h : Settled k x (take k t) n s₀ n₀ r s₁ n₁) where
+  pub stays : {u : Unit {0}} → r ≡ Ok u → Judging k x t n s₀ n₀ (Ok tt) t s₁ n₁
   stays z =
       record {
-        answer = rw (← h.answer) e;
-        left_tree = rw (← h.answer, eq-eqb r 0 z);
+        answer = rw (← h.answer, z);
+        left_tree = rw (← h.answer, z);
         scopes_zero = h.scopes_zero;
         notes_zero = h.notes_zero;
       }
 
-  pub goes : {t₁ : List ℕ} → (r ≡ 0 → ⊥) → t₁ ≡ zeroed 0 k t → Judging k x t n s₀ n₀ v t₁ s₁ n₁
-  unfolding tree_left
-  goes z w =
+  pub goes : {f : Flaw} {v : Refusal} {t₁ : List ℕ} → r ≡ Err f → v ≡ refusal_at (take k t) f → t₁ ≡ zeroed 0 k t → Judging k x t n s₀ n₀ (Err v) t₁ s₁ n₁
+  goes z e w =
       record {
-        answer = rw (← h.answer) e;
-        left_tree = rw (← h.answer, ne_eqb r 0 z, w);
+        answer = rw (← h.answer, z, e);
+        left_tree = rw (← h.answer, z, w);
         scopes_zero = h.scopes_zero;
         notes_zero = h.notes_zero;
       }

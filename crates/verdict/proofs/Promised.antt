@@ -2,13 +2,14 @@
 use Prim.Native.Nat.{ℕ, ◌-◌, ◌≤◌, ◌<◌}
 use mathlib.Core.Path.{◌≡◌, refl, sym, ap, ◌∙◌, subst}
 use mathlib.Core.Bool.{Bool, true, false, cond}
-use mathlib.Core.List.{List, [], ◌∷◌, ◌++◌}
+use mathlib.Core.List.{List, [], ◌∷◌}
+use Rattle.std.specs.Prelude.{Ok, Err, Result as Outcome}
 use native.Mathlib.Omega.{arith}
 use lib.Dec.{eqb, leb, ltb}
-use lib.ListN.{length, take, drop, replicate}
+use lib.ListN.{length, take, replicate}
 use borrow.Author.Tests.{leb-true}
 use Rattle.language.specs.Syntax.{Block}
-use Rattle.language.specs.Answers.{Refusal, TYPE, DOUBLE, Answer, Result, fine, refuse, refusal_number}
+use Rattle.language.specs.Answers.{Refusal, TYPE, DOUBLE, Answer, fine, refuse, refused}
 use Rattle.language.specs.Table.{table}
 use Rattle.language.specs.Reading.{Reading}
 use Rattle.language.specs.Promises.{Verdict, unread, verdict_answer, Lent, tree_table, large_enough, zeroed, holding, tree_after, Check, judged}
@@ -16,17 +17,17 @@ use Rattle.limits.specs.Cleared as limits
 use Rattle.limits.proofs.Cleared.{zeroed_is}
 use Rattle.nodes.specs.Trees.{ReadAs}
 use Rattle.nodes.proofs.Program.{nodes_of_block, table_length}
-use Rattle.parsing.specs.declared.Outcome.{Outcome}
-use Rattle.parsing.specs.declared.Outcome.TheVariants.{Tree, Refused}
+use Rattle.reading.specs.declared.ReadError.{ReadError}
+use Rattle.reading.specs.Outcomes.{refusal_of, place_of}
 use Rattle.reading.specs.Promise.{working, Left, left, Read, too_long, too_small, answered}
 use Rattle.judge.specs.Scopes.{pick, place_at}
 use Rattle.judge.proofs.Right.{result_of, zeros_verdict}
-use Rattle.verdict.specs.declared.Verdict.{Verdict as Says}
-use Rattle.verdict.specs.declared.Verdict.TheVariants.{Accepted, «Type», Double}
-use Rattle.verdict.specs.Answers.{meant, lent, checked}
-use Rattle.verdict.specs.Judging as specs
+use Rattle.judge.specs.Judge.{verdict_of}
+use Rattle.judging.specs.Flaws.{judgement}
+use Rattle.judging.specs.declared.Flaw.TheVariants as flaw
+use Rattle.verdict.specs.declared.Refusal.{Refusal as Reason}
+use Rattle.verdict.specs.Answers.{Verdict as Says, refusal_meant, meant, lent, checked}
 use Rattle.verdict.specs.Judging.{refused_node, verdict_at, tree_left, Judging}
-use Rattle.verdict.proofs.Unread.{unread_right}
 use Rattle.verdict.proofs.TreeWords.{wiped, few_words, words_read}
 
 -- ---- the tables' lengths
@@ -61,22 +62,6 @@ roomy t w s c n h =
 
 -- ---- what reading left
 
-abbrev count_of : Outcome → ℕ
-count_of (Tree n) = n
-count_of (Refused m p) = 0
-
-abbrev number_in : Outcome → ℕ
-number_in (Tree n) = 0
-number_in (Refused m p) = m
-
-abbrev place_in : Outcome → ℕ
-place_in (Tree n) = 0
-place_in (Refused m p) = p
-
-abbrev is_tree : Outcome → Bool
-is_tree (Tree n) = true
-is_tree (Refused m p) = false
-
 abbrev first : List (List ℕ) → List ℕ
 first [] = []
 first (l ∷ ls) = l
@@ -95,53 +80,53 @@ module _ (x t₀ w₀ s₀ : List ℕ) (short : length x ≤ 16384) where
     pub words_zero : w₁ ≡ zeroed 4096 w₀
     pub stack_zero : s₁ ≡ zeroed 4097 s₀
 
-  tree_of : {l : Left} {n : ℕ} {t₁ w₁ s₁ : List ℕ} → Read x t₀ (working w₀ s₀) l → l ≡ left (Tree n) t₁ w₁ s₁ → TreeRead n t₁ w₁ s₁
-  tree_of (too_long h) e = absurd (never (ap (λ (l : Left). is_tree l.outcome) e))
-  tree_of (too_small h g) e = absurd (never (ap (λ (l : Left). is_tree l.outcome) e))
-  tree_of (answered {v = refuse r p} h g q) e = absurd (never (ap (λ (l : Left). is_tree l.outcome) e))
-  tree_of (answered {v = fine b} h g q) e =
+  tree_of : {l : Left} {n : ℕ} {t₁ w₁ s₁ : List ℕ} → Read x t₀ (working w₀ s₀) l → l ≡ left (Ok n) t₁ w₁ s₁ → TreeRead n t₁ w₁ s₁
+  tree_of (too_long h) e = let o = ap (λ (l : Left). l.outcome) e in absurd cc
+  tree_of (too_small h g) e = let o = ap (λ (l : Left). l.outcome) e in absurd cc
+  tree_of (answered {v = refuse r p} h g q) e = let o = ap (λ (l : Left). l.outcome) e in absurd cc
+  tree_of {n = n} (answered {v = fine b} h g q) e =
+      let o : fine (length (table b)) ≡ fine n = ap (λ (l : Left). l.outcome) e in
       record {
         tree = b;
         reads = q;
-        count = sym (ap (λ (l : Left). count_of l.outcome) e);
+        count = cc;
         words_are = sym (ap (λ (l : Left). l.tree) e);
         words_zero = sym (ap (λ (l : Left). first l.works) e);
         stack_zero = sym (ap (λ (l : Left). second l.works) e);
       }
 
-  pub tree_read : {o : Outcome} {n : ℕ} {t₁ w₁ s₁ : List ℕ} → Read x t₀ (working w₀ s₀) (left o t₁ w₁ s₁) → o ≡ Tree n → TreeRead n t₁ w₁ s₁
-  tree_read {t₁ = t₁} {w₁} {s₁} h e = tree_of h (ap (λ (o : Outcome). left o t₁ w₁ s₁) e)
+  pub tree_read : {o : Outcome ℕ ReadError} {n : ℕ} {t₁ w₁ s₁ : List ℕ} → Read x t₀ (working w₀ s₀) (left o t₁ w₁ s₁) → o ≡ Ok n → TreeRead n t₁ w₁ s₁
+  tree_read {t₁ = t₁} {w₁} {s₁} h e = tree_of h (ap (λ (o : Outcome ℕ ReadError). left o t₁ w₁ s₁) e)
 
   -- it does not read
-  pub record NoneRead (m q : ℕ) (t₁ w₁ s₁ : List ℕ) : Type 0 where
-    pub why : Refusal
-    pub reads : Reading x (refuse why q)
-    pub number : m ≡ refusal_number why
+  pub record NoneRead (e : ReadError) (t₁ w₁ s₁ : List ℕ) : Type 0 where
+    pub reads : Reading x (refuse (refusal_of e) (place_of e))
     pub words_are : t₁ ≡ zeroed 4096 t₀
     pub words_zero : w₁ ≡ zeroed 4096 w₀
     pub stack_zero : s₁ ≡ zeroed 4097 s₀
 
-  none_of : {l : Left} {m q : ℕ} {t₁ w₁ s₁ : List ℕ} → large_enough (tree_table t₀ ∷ working w₀ s₀) ≡ true →
-      Read x t₀ (working w₀ s₀) l → l ≡ left (Refused m q) t₁ w₁ s₁ → NoneRead m q t₁ w₁ s₁
+  none_of : {l : Left} {e : ReadError} {t₁ w₁ s₁ : List ℕ} → large_enough (tree_table t₀ ∷ working w₀ s₀) ≡ true →
+      Read x t₀ (working w₀ s₀) l → l ≡ left (Err e) t₁ w₁ s₁ → NoneRead e t₁ w₁ s₁
   none_of room (too_long h) e = absurd (past h short)
     where
       past : {n : ℕ} → 16384 < n → n ≤ 16384 → ⊥
       past h g = omega arith
   none_of room (too_small h g) e = absurd (never (sym g ∙ room))
-  none_of room (answered {v = fine b} h g q) e = absurd (never (sym (ap (λ (l : Left). is_tree l.outcome) e)))
-  none_of room (answered {v = refuse r p} h g q) e =
+  none_of room (answered {v = fine b} h g q) e = let o = ap (λ (l : Left). l.outcome) e in absurd cc
+  none_of {e = why} room (answered {v = refuse r p} h g q) e =
+      let o : refuse r p ≡ refuse (refusal_of why) (place_of why) = ap (λ (l : Left). l.outcome) e in
+      let r-is : r ≡ refusal_of why = cc in
+      let p-is : p ≡ place_of why = cc in
       record {
-        why = r;
-        reads = subst (λ (j : ℕ). Reading x (refuse r j)) (ap (λ (l : Left). place_in l.outcome) e) q;
-        number = sym (ap (λ (l : Left). number_in l.outcome) e);
+        reads = subst (λ (i : Refusal). Reading x (refuse i (place_of why))) r-is (subst (λ (j : ℕ). Reading x (refuse r j)) p-is q);
         words_are = sym (ap (λ (l : Left). l.tree) e);
         words_zero = sym (ap (λ (l : Left). first l.works) e);
         stack_zero = sym (ap (λ (l : Left). second l.works) e);
       }
 
-  pub none_read : {o : Outcome} {m q : ℕ} {t₁ w₁ s₁ : List ℕ} → large_enough (tree_table t₀ ∷ working w₀ s₀) ≡ true →
-      Read x t₀ (working w₀ s₀) (left o t₁ w₁ s₁) → o ≡ Refused m q → NoneRead m q t₁ w₁ s₁
-  none_read {t₁ = t₁} {w₁} {s₁} room h e = none_of room h (ap (λ (o : Outcome). left o t₁ w₁ s₁) e)
+  pub none_read : {o : Outcome ℕ ReadError} {e : ReadError} {t₁ w₁ s₁ : List ℕ} → large_enough (tree_table t₀ ∷ working w₀ s₀) ≡ true →
+      Read x t₀ (working w₀ s₀) (left o t₁ w₁ s₁) → o ≡ Err e → NoneRead e t₁ w₁ s₁
+  none_read {t₁ = t₁} {w₁} {s₁} room h e = none_of room h (ap (λ (o : Outcome ℕ ReadError). left o t₁ w₁ s₁) e)
 
 -- ---- the promise
 
@@ -156,30 +141,36 @@ as_left {x} {t} {ws} a a' t₁ t₂ w₁ w₂ p q r h =
 four : {a a' b b' c c' d d' : List ℕ} → a ≡ a' → b ≡ b' → c ≡ c' → d ≡ d' → (a' ∷ (b' ∷ (c' ∷ (d' ∷ [])))) ≡ (a ∷ (b ∷ (c ∷ (d ∷ []))))
 four p q r s = rw (p, q, r, s)
 
-same_answer : (tree : List ℕ) (b : Block) (r : ℕ) → verdict_answer (result_of tree b r) ≡ meant (verdict_at tree r)
-unfolding result_of verdict_at
-same_answer tree b r = by (eqb r 0) (ltb r 65537) (place_at tree (r - 1)) (place_at tree (r - 65537))
-  where
-    by : (t u : Bool) (p q : ℕ) → verdict_answer (pick t (λ _. fine b) λ _. pick u (λ _. refuse TYPE p) λ _. refuse DOUBLE q) ≡
-        meant (pick t (λ _. Accepted) λ _. pick u (λ _. «Type» p) λ _. Double q)
-    by true u p q = refl
-    by false true p q = refl
-    by false false p q = refl
+-- the model's answer on n nodes, over scopes and notes that are zero
+abbrev node_number : (x tree : List ℕ) (n : ℕ) → ℕ
+node_number x tree n = verdict_of x tree n (replicate 4096 0) (replicate 4096 0)
 
-same_tree : (tree : List ℕ) (b : Block) (r : ℕ) (t₀ t₁ : List ℕ) → t₁ ≡ holding 4096 (table b) t₀ → limits.zeroed 0 4096 t₁ ≡ zeroed 4096 t₀ →
-    tree_after (result_of tree b r) t₀ ≡ tree_left 4096 t₁ r
-unfolding result_of tree_left
-same_tree tree b r t₀ t₁ e z = by (eqb r 0) (ltb r 65537) (place_at tree (r - 1)) (place_at tree (r - 65537))
-  where
-    by : (t u : Bool) (p q : ℕ) → tree_after (pick t (λ _. fine b) λ _. pick u (λ _. refuse TYPE p) λ _. refuse DOUBLE q) t₀ ≡
-        pick t (λ _. t₁) λ _. limits.zeroed 0 4096 t₁
-    by true u p q = sym e
-    by false true p q = sym z
-    by false false p q = sym z
+module _ (x tree : List ℕ) (n : ℕ) (b : Block) where
+  same_answer : verdict_answer (result_of tree b (node_number x tree n)) ≡ meant (verdict_at tree (refused_node 4096 x tree n))
+  unfolding result_of refused_node judgement
+  same_answer = by (eqb (node_number x tree n) 0) (ltb (node_number x tree n) 65537) (node_number x tree n)
+    where
+      by : (t u : Bool) (r : ℕ) →
+          verdict_answer (pick t (λ _. fine b) λ _. pick u (λ _. refuse TYPE (place_at tree (r - 1))) λ _. refuse DOUBLE (place_at tree (r - 65537))) ≡
+          meant (verdict_at tree (pick t (λ _. Ok tt) λ _. pick u (λ _. Err (flaw.«Type» (r - 1))) λ _. Err (flaw.Double (r - 65537))))
+      by true u r = refl
+      by false true r = refl
+      by false false r = refl
+
+  same_tree : (t₀ t₁ : List ℕ) → t₁ ≡ holding 4096 (table b) t₀ → limits.zeroed 0 4096 t₁ ≡ zeroed 4096 t₀ →
+      tree_after (result_of tree b (node_number x tree n)) t₀ ≡ tree_left 4096 t₁ (refused_node 4096 x tree n)
+  unfolding result_of refused_node judgement
+  same_tree t₀ t₁ e z = by (eqb (node_number x tree n) 0) (ltb (node_number x tree n) 65537) (node_number x tree n)
+    where
+      by : (t u : Bool) (r : ℕ) →
+          tree_after (pick t (λ _. fine b) λ _. pick u (λ _. refuse TYPE (place_at tree (r - 1))) λ _. refuse DOUBLE (place_at tree (r - 65537))) t₀ ≡
+          tree_left 4096 t₁ (pick t (λ _. Ok tt) λ _. pick u (λ _. Err (flaw.«Type» (r - 1))) λ _. Err (flaw.Double (r - 65537)))
+      by true u r = sym e
+      by false true r = sym z
+      by false false r = sym z
 
 right_verdict : {x : List ℕ} {b : Block} (tree : List ℕ) (n : ℕ) → ReadAs (record { tree = tree; text = x }) b → n ≡ nodes_of_block b →
-    Verdict x (result_of tree b (refused_node 4096 x tree n))
-unfolding refused_node
+    Verdict x (result_of tree b (node_number x tree n))
 right_verdict tree n h e = rw e (zeros_verdict h)
 
 module _ (x t₀ w₀ s₀ c₀ n₀ : List ℕ) (short : length x ≤ 16384) (room : large_enough (tree_table t₀ ∷ lent w₀ s₀ c₀ n₀) ≡ true) where
@@ -187,7 +178,7 @@ module _ (x t₀ w₀ s₀ c₀ n₀ : List ℕ) (short : length x ≤ 16384) (r
   big = roomy t₀ w₀ s₀ c₀ n₀ room
 
   -- no more nodes than the tables have entries
-  pub fits : {o : Outcome} {n : ℕ} {t₁ w₁ s₁ : List ℕ} → Read x t₀ (working w₀ s₀) (left o t₁ w₁ s₁) → o ≡ Tree n → length t₁ ≡ length t₀ →
+  pub fits : {o : Outcome ℕ ReadError} {n : ℕ} {t₁ w₁ s₁ : List ℕ} → Read x t₀ (working w₀ s₀) (left o t₁ w₁ s₁) → o ≡ Ok n → length t₁ ≡ length t₀ →
       (n ≤ 4096) × (4096 ≤ length t₁) × (4096 ≤ length c₀) × (4096 ≤ length n₀)
   fits h e l =
       let r = tree_read x t₀ w₀ s₀ short h e in
@@ -198,16 +189,13 @@ module _ (x t₀ w₀ s₀ c₀ n₀ : List ℕ) (short : length x ≤ 16384) (r
   judged_tree : {n : ℕ} {r : Says} {t₁ w₁ s₁ t₂ c₁ n₁ : List ℕ} → TreeRead x t₀ w₀ s₀ short n t₁ w₁ s₁ → Judging 4096 x t₁ n c₀ n₀ r t₂ c₁ n₁ →
       Check x t₀ (lent w₀ s₀ c₀ n₀) (checked r t₂ w₁ s₁ c₁ n₁)
   judged_tree {n} {r} {t₁} {w₁} {s₁} {t₂} {c₁} {n₁} h j =
-      as_left _ _ _ _ _ _ (same_answer (take 4096 t₁) b a ∙ sym (ap meant j.answer))
-      (same_tree (take 4096 t₁) b a t₀ t₁ h.words_are clear ∙ sym j.left_tree)
+      as_left _ _ _ _ _ _ (same_answer x (take 4096 t₁) n b ∙ sym (ap meant j.answer))
+      (same_tree x (take 4096 t₁) n b t₀ t₁ h.words_are clear ∙ sym j.left_tree)
       (four h.words_zero h.stack_zero (j.scopes_zero ∙ zeroed_is 0 4096 c₀ big.for_scopes) (j.notes_zero ∙ zeroed_is 0 4096 n₀ big.for_notes))
       (judged short room (right_verdict (take 4096 t₁) n here (h.count ∙ table_length b)))
     where
       b : Block
       b = h.tree
-
-      a : ℕ
-      a = refused_node 4096 x (take 4096 t₁) n
 
       few : length (table b) ≤ 4096
       few = few_words h.reads short
@@ -219,18 +207,17 @@ module _ (x t₀ w₀ s₀ c₀ n₀ : List ℕ) (short : length x ≤ 16384) (r
       here = subst (λ (t : List ℕ). ReadAs (record { tree = take 4096 t; text = x }) b) (sym h.words_are) (words_read h.reads short 4096 t₀ few)
 
   -- a text that reads is judged
-  pub tree_promised : {o : Outcome} {n : ℕ} {r : Says} {t₁ w₁ s₁ t₂ c₁ n₁ : List ℕ} →
-      Read x t₀ (working w₀ s₀) (left o t₁ w₁ s₁) → o ≡ Tree n → Judging 4096 x t₁ n c₀ n₀ r t₂ c₁ n₁ →
+  pub tree_promised : {o : Outcome ℕ ReadError} {n : ℕ} {r : Says} {t₁ w₁ s₁ t₂ c₁ n₁ : List ℕ} →
+      Read x t₀ (working w₀ s₀) (left o t₁ w₁ s₁) → o ≡ Ok n → Judging 4096 x t₁ n c₀ n₀ r t₂ c₁ n₁ →
       Check x t₀ (lent w₀ s₀ c₀ n₀) (checked r t₂ w₁ s₁ c₁ n₁)
   tree_promised h e j = judged_tree (tree_read x t₀ w₀ s₀ short h e) j
 
   -- one that does not is refused
-  pub none_promised : {o : Outcome} {m q : ℕ} {r : Says} {t₁ w₁ s₁ c₁ n₁ : List ℕ} →
-      Read x t₀ (working w₀ s₀) (left o t₁ w₁ s₁) → o ≡ Refused m q → r ≡ specs.unread m q →
-      c₁ ≡ limits.zeroed 0 4096 c₀ → n₁ ≡ limits.zeroed 0 4096 n₀ → Check x t₀ (lent w₀ s₀ c₀ n₀) (checked r t₁ w₁ s₁ c₁ n₁)
-  none_promised {q = q} k g e c n =
+  pub none_promised : (r : Reason) {o : Outcome ℕ ReadError} {e : ReadError} {t₁ w₁ s₁ c₁ n₁ : List ℕ} →
+      Read x t₀ (working w₀ s₀) (left o t₁ w₁ s₁) → o ≡ Err e → refusal_meant r ≡ refused (refusal_of e) (place_of e) →
+      c₁ ≡ limits.zeroed 0 4096 c₀ → n₁ ≡ limits.zeroed 0 4096 n₀ → Check x t₀ (lent w₀ s₀ c₀ n₀) (checked (Err r) t₁ w₁ s₁ c₁ n₁)
+  none_promised r k g e c n =
       let h = none_read x t₀ w₀ s₀ short big.for_reading k g in
-      as_left _ _ _ _ _ _ (sym (ap meant (e ∙ ap (λ (i : ℕ). specs.unread i q) h.number) ∙ unread_right h.reads))
-      (sym h.words_are)
+      as_left _ _ _ _ _ _ (sym e) (sym h.words_are)
       (four h.words_zero h.stack_zero (c ∙ zeroed_is 0 4096 c₀ big.for_scopes) (n ∙ zeroed_is 0 4096 n₀ big.for_notes))
       (judged short room (unread h.reads))

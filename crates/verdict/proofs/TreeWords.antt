@@ -12,7 +12,7 @@ use Rattle.language.specs.Reading.{Reading}
 use Rattle.limits.specs.Cleared.{zeroed}
 use Rattle.limits.proofs.Cleared.{zeroed_is}
 use Rattle.nodes.specs.Trees.{Script, ReadAs}
-use Rattle.nodes.proofs.Program.{nodes_of_block, table_length, few_nodes}
+use Rattle.nodes.proofs.Program.{table_length, few_nodes}
 
 -- zeros behind a list change no entry
 zero_at : (m j : ℕ) → ◌≡◌ {A = ℕ} (get_or (replicate m 0) j 0) (get_or [] j 0)

@@ -8,26 +8,29 @@ ghost use Rattle.verdict.specs.Answers.{lent};
 ghost use Rattle.house_form.specs.House.{house_form_of, Write, write_number, write_place};
 ghost use Rattle.writing.specs.Parts.{Readable};
 ghost use Rattle.writing.specs.Pages.{put_of, page_after};
+ghost use Rattle.writer.specs.declared.WriteError.TheVariants.{Refused};
 ghost use Rattle.writer.specs.Answers.{meant, bytes_of, put_as, written};
 
-use verdict::{Verdict, check};
-use writing::{Put, put_form};
+use verdict::{Refusal, check};
+use writing::put_form;
 
-// So many bytes were written; there is no room for the form; or refused as CHECK refuses.
-#[derive(Clone, Copy)]
-pub enum Wrote {
-    Bytes(u64),
+// There is no room for the form; or the text is refused as CHECK refuses it.
+#[derive(Clone, Copy, Debug, PartialEq, Eq)]
+pub enum WriteError {
     Room,
-    Length,
-    Table,
-    Byte(u64),
-    Number(u64),
-    Tokens(u64),
-    Syntax(u64),
-    Level(u64),
-    Type(u64),
-    Double(u64),
+    Refused(Refusal),
 }
+
+impl From<Refusal> for WriteError {
+    ghost from_gives = { λ refusal error. error ≡ Refused refusal };
+
+    fn from(refusal: Refusal) -> Self {
+        WriteError::Refused(refusal)
+    }
+}
+
+// How many bytes were written, or why none were.
+pub type Wrote = Result<u64, WriteError>;
 
 // The form of an accepted text.
 fn write_accepted(text: &[u8], page: &mut [u8]) -> Wrote
@@ -35,14 +38,13 @@ fn write_accepted(text: &[u8], page: &mut [u8]) -> Wrote
     ensures { (result ≡ put_as (put_of (house_form_of text.now) page.old))
         × (page.new ≡ page_after (house_form_of text.now) page.old) }
 {
-    match put_form(text, page) {
-        Put::Bytes(n) => Wrote::Bytes(n as u64),
-        Put::Room => Wrote::Room,
-    }
+    let bytes = put_form(text, page).ok_or(WriteError::Room)?;
+    Ok(bytes as u64)
 }
 
 // Writes the house form of a text to the page. What is refused leaves the page as it was, and what is written leaves its rest so;
 // the other tables are as CHECK leaves them, also where there is no room.
+// Kept: the tables come one by one, as `check` takes them.
 pub fn write(
     text: &[u8],
     tree: &mut [u64],
@@ -55,36 +57,21 @@ pub fn write(
     ensures { Write text.now tree.old (lent words.old stack.old scopes.old notes.old)
         page.old (written result tree.new words.new stack.new scopes.new notes.new page.new) }
 {
-    match check(text, tree, words, stack, scopes, notes) {
-        Verdict::Accepted => write_accepted(text, page),
-        Verdict::Length => Wrote::Length,
-        Verdict::Table => Wrote::Table,
-        Verdict::Byte(place) => Wrote::Byte(place),
-        Verdict::Number(place) => Wrote::Number(place),
-        Verdict::Tokens(place) => Wrote::Tokens(place),
-        Verdict::Syntax(place) => Wrote::Syntax(place),
-        Verdict::Level(place) => Wrote::Level(place),
-        Verdict::Type(place) => Wrote::Type(place),
-        Verdict::Double(place) => Wrote::Double(place),
-    }
+    check(text, tree, words, stack, scopes, notes)?;
+    write_accepted(text, page)
 }
 
-// The answers' numbers in document 01; ROOM is request 3's.
+// The number of ROOM, which is request 3's.
+const ROOM: u64 = 30;
+
+// The answers' numbers in document 01.
 pub fn number_of(wrote: Wrote) -> u64
     ensures { result ≡ write_number (meant wrote) }
 {
     match wrote {
-        Wrote::Bytes(_) => 0,
-        Wrote::Length => 1,
-        Wrote::Table => 3,
-        Wrote::Byte(_) => 4,
-        Wrote::Number(_) => 5,
-        Wrote::Tokens(_) => 6,
-        Wrote::Syntax(_) => 7,
-        Wrote::Level(_) => 8,
-        Wrote::Type(_) => 9,
-        Wrote::Double(_) => 10,
-        Wrote::Room => 30,
+        Ok(_) => 0,
+        Err(WriteError::Refused(refusal)) => refusal.number(),
+        Err(WriteError::Room) => ROOM,
     }
 }
 
@@ -93,17 +80,8 @@ pub fn place_of(wrote: Wrote) -> u64
     ensures { result ≡ write_place (meant wrote) }
 {
     match wrote {
-        Wrote::Byte(place) => place,
-        Wrote::Number(place) => place,
-        Wrote::Tokens(place) => place,
-        Wrote::Syntax(place) => place,
-        Wrote::Level(place) => place,
-        Wrote::Type(place) => place,
-        Wrote::Double(place) => place,
-        Wrote::Bytes(_) => 0,
-        Wrote::Length => 0,
-        Wrote::Table => 0,
-        Wrote::Room => 0,
+        Err(WriteError::Refused(refusal)) => refusal.place(),
+        _ => 0,
     }
 }
 
@@ -111,17 +89,5 @@ pub fn place_of(wrote: Wrote) -> u64
 pub fn bytes_of(wrote: Wrote) -> u64
     ensures { result ≡ bytes_of wrote }
 {
-    match wrote {
-        Wrote::Bytes(n) => n,
-        Wrote::Room => 0,
-        Wrote::Length => 0,
-        Wrote::Table => 0,
-        Wrote::Byte(_) => 0,
-        Wrote::Number(_) => 0,
-        Wrote::Tokens(_) => 0,
-        Wrote::Syntax(_) => 0,
-        Wrote::Level(_) => 0,
-        Wrote::Type(_) => 0,
-        Wrote::Double(_) => 0,
-    }
+    wrote.unwrap_or(0)
 }

@@ -4,10 +4,14 @@ use mathlib.Core.Bool.{Bool, true, false, cond, not, true≢false}
 use mathlib.Core.List.{List, [], ◌∷◌, ◌++◌}
 use Prim.Native.Nat.{ℕ, zero, suc, ◌+◌, ◌-◌, ◌≤◌, ◌<◌}
 use native.Mathlib.Omega.{arith}
-use borrow.Author.Tests.{eqb-true, eq-eqb, ne_eqb}
+use borrow.Author.Tests.{eqb-true, ne_eqb}
 use lib.Dec.{eqb}
-use lib.ListN.{length, take, drop, get_or, set, length-append, length-drop, length-set, drop_of_length-le}
-use lib.Seq.{take_all, drop-cons, sets, length-sets}
+use lib.ListN.{length, take, drop, get_or, set, length-append, length-drop}
+use lib.Seq.{take_all, drop-cons, sets, sets-eq, length-sets}
+use borrow.Rule.Slice.PartMut.{put_mid}
+use Rattle.std.proofs.lemmas.Slice.{put_mid-paste}
+use Rattle.std.specs.List.{prefix_len, take_while}
+use Rattle.std.proofs.lemmas.List.Folds.{length-prefix_len}
 use Rattle.language.specs.Words.{is_digit}
 use Rattle.house_form.proofs.Digits.{digit_range}
 use Rattle.house_form.proofs.Stripped.{stripped}
@@ -16,29 +20,20 @@ use Rattle.writing.specs.Pieces.{zeros, skipped_behind, skipped, sign_kept, sign
 
 -- ---- zeros
 
--- a byte that another follows
-module _ (l : List ℕ) (i : ℕ) (h : suc i < length l) where
-  there : zeros (drop i l) ≡ cond (eqb (get_or l i 0) 48) (suc (zeros (drop (suc i) l))) 0
-  there =
-      let a = drop-cons l i 0 (omega (arith, h)) in let b = drop-cons l (suc i) 0 h in
-      ap zeros (a ∙ ap (λ (r : List ℕ). get_or l i 0 ∷ r) b) ∙ ap (λ (r : List ℕ). cond (eqb (get_or l i 0) 48) (suc (zeros r)) 0) (sym b)
+-- the zeros before the last digit, as the code counts them
+zeros_before_last : (l : List ℕ) (n : ℕ) → suc n ≡ length l → prefix_len (λ b. eqb b 48) (take n l) ≡ zeros l
+zeros_before_last [] n h = absurd (omega (arith, h))
+zeros_before_last (b ∷ []) zero h = refl
+zeros_before_last (b ∷ []) (suc n) h = absurd (omega (arith, h))
+zeros_before_last (b ∷ d ∷ l) zero h = absurd (omega (arith, h))
+zeros_before_last (b ∷ d ∷ l) (suc n) h =
+    let k : suc n ≡ length (d ∷ l) = omega (arith, h) in
+    let one : 1 + prefix_len (λ b. eqb b 48) (take n (d ∷ l)) ≡ suc (zeros (d ∷ l)) = omega (arith, zeros_before_last (d ∷ l) n k) in
+    ap (λ (m : ℕ). cond (eqb b 48) m 0) one
 
-  pub zero_more : get_or l i 0 ≡ 48 → zeros (drop i l) ≡ suc (zeros (drop (suc i) l))
-  zero_more e = there ∙ ap (λ (b : ℕ). cond (eqb b 48) (suc (zeros (drop (suc i) l))) 0) e
-
-  pub zeros_over : ¬ (get_or l i 0 ≡ 48) → zeros (drop i l) ≡ 0
-  zeros_over n = there ∙ ap (λ (b : Bool). cond b (suc (zeros (drop (suc i) l))) 0) (ne_eqb (get_or l i 0) 48 n)
-
-pub zeros_last : (l : List ℕ) (i : ℕ) → suc i ≡ length l → zeros (drop i l) ≡ 0
-zeros_last l i h =
-    ap zeros (drop-cons l i 0 (omega (arith, h)) ∙ ap (λ (r : List ℕ). get_or l i 0 ∷ r) (drop_of_length-le l {i = suc i} (omega (arith, h))))
-
-pub add_one_drop : (l : List ℕ) (i : ℕ) → zeros (drop (i + 1) l) ≡ zeros (drop (suc i) l)
-add_one_drop l i = let e : i + 1 ≡ suc i = omega arith in ap (λ (j : ℕ). zeros (drop j l)) e
-
-pub zeros_none : (l : List ℕ) → length l ≡ 0 → zeros l ≡ 0
-zeros_none [] h = refl
-zeros_none (b ∷ l) h = absurd (omega (arith, h))
+pub zeros_counted : (l : List ℕ) (n : ℕ) → n ≡ length l - 1 → length (take_while (λ b. eqb b 48) (take n l)) ≡ zeros l
+zeros_counted [] n h = let none : n ≡ 0 = omega (arith, h) in rw none
+zeros_counted (b ∷ l) n h = length-prefix_len (λ b. eqb b 48) (take n (b ∷ l)) ∙ zeros_before_last (b ∷ l) n (omega (arith, h))
 
 zeros_few : (b : ℕ) (l : List ℕ) → zeros (b ∷ l) ≤ length l
 zeros_few b [] = omega arith
@@ -60,6 +55,10 @@ stripped_drop (b ∷ d ∷ l) = go (eqb b 48) (stripped_drop (d ∷ l))
     go : (t : Bool) → stripped (d ∷ l) ≡ drop (zeros (d ∷ l)) (d ∷ l) → cond t (stripped (d ∷ l)) (b ∷ d ∷ l) ≡ drop (cond t (suc (zeros (d ∷ l))) 0) (b ∷ d ∷ l)
     go true h = h
     go false h = refl
+
+pub zeros_within : (l : List ℕ) → zeros l ≤ length l
+zeros_within [] = omega arith
+zeros_within (b ∷ l) = omega (arith, zeros_few b l)
 
 -- ---- what is not copied
 
@@ -129,78 +128,6 @@ tidy_as (b ∷ l) = go (is_digit b) (eqb b 45) refl refl
     go false true e f = subst (λ (a : ℕ). behind_minus l ≡ sign (sign_kept (a ∷ l) (skipped_behind l)) ++ drop (skipped_behind l) (a ∷ l)) (sym (eqb-true b 45 f)) (behind_as l)
     go false false e f = plain 0 f
 
--- whether it keeps one, as the code finds out
-module _ (w : List ℕ) (k : ℕ) where
-  pub none_skipped : k ≡ 0 → false ≡ sign_kept w k
-  none_skipped e = sym (ap (λ (t : Bool). cond t false (cond (eqb (get_or w 0 0) 45) (not (eqb (get_or w k 0) 48)) false)) (eq-eqb k 0 e))
-
-  pub no_minus : ¬ (get_or w 0 0 ≡ 45) → false ≡ sign_kept w k
-  no_minus n = sym (not_kept w k (ne_eqb (get_or w 0 0) 45 n))
-
-  behind_minus_kept : ¬ (k ≡ 0) → get_or w 0 0 ≡ 45 → sign_kept w k ≡ not (eqb (get_or w k 0) 48)
-  behind_minus_kept n e =
-      ap (λ (t : Bool). cond t false (cond (eqb (get_or w 0 0) 45) (not (eqb (get_or w k 0) 48)) false)) (ne_eqb k 0 n) ∙
-      ap (λ (t : Bool). cond t (not (eqb (get_or w k 0) 48)) false) (eq-eqb (get_or w 0 0) 45 e)
-
-  pub minus_zero : ¬ (k ≡ 0) → get_or w 0 0 ≡ 45 → get_or w k 0 ≡ 48 → false ≡ sign_kept w k
-  minus_zero n e z = sym (behind_minus_kept n e ∙ ap not (eq-eqb (get_or w k 0) 48 z))
-
-  pub minus_other : ¬ (k ≡ 0) → get_or w 0 0 ≡ 45 → ¬ (get_or w k 0 ≡ 48) → true ≡ sign_kept w k
-  minus_other n e z = sym (behind_minus_kept n e ∙ ap not (ne_eqb (get_or w k 0) 48 z))
-
--- the first byte decides what is skipped
-module _ (w : List ℕ) where
-  pub skipped_empty : length w ≡ 0 → 0 ≡ skipped w
-  skipped_empty h = go w h
-    where
-      go : (w : List ℕ) → length w ≡ 0 → 0 ≡ skipped w
-      go [] h = refl
-      go (b ∷ l) h = absurd (omega (arith, h))
-
-  pub skipped_number : 0 < length w → is_digit (get_or w 0 0) ≡ true → zeros w ≡ skipped w
-  skipped_number h e = go w h e
-    where
-      go : (w : List ℕ) → 0 < length w → is_digit (get_or w 0 0) ≡ true → zeros w ≡ skipped w
-      go [] h e = absurd (omega (arith, h))
-      go (b ∷ l) h e = sym (ap (λ (t : Bool). cond t (zeros (b ∷ l)) (cond (eqb b 45) (skipped_behind l) 0)) e)
-
-  pub skipped_nothing : 0 < length w → is_digit (get_or w 0 0) ≡ false → ¬ (get_or w 0 0 ≡ 45) → 0 ≡ skipped w
-  skipped_nothing h e n = go w h e n
-    where
-      go : (w : List ℕ) → 0 < length w → is_digit (get_or w 0 0) ≡ false → ¬ (get_or w 0 0 ≡ 45) → 0 ≡ skipped w
-      go [] h e n = absurd (omega (arith, h))
-      go (b ∷ l) h e n =
-          sym (ap (λ (t : Bool). cond t (zeros (b ∷ l)) (cond (eqb b 45) (skipped_behind l) 0)) e ∙ ap (λ (t : Bool). cond t (skipped_behind l) 0) (ne_eqb b 45 n))
-
-  pub skipped_signed : 0 < length w → is_digit (get_or w 0 0) ≡ false → get_or w 0 0 ≡ 45 → skipped_behind (drop 1 w) ≡ skipped w
-  skipped_signed h e m = go w h e m
-    where
-      go : (w : List ℕ) → 0 < length w → is_digit (get_or w 0 0) ≡ false → get_or w 0 0 ≡ 45 → skipped_behind (drop 1 w) ≡ skipped w
-      go [] h e m = absurd (omega (arith, h))
-      go (b ∷ l) h e m =
-          sym (ap (λ (t : Bool). cond t (zeros (b ∷ l)) (cond (eqb b 45) (skipped_behind l) 0)) e ∙ ap (λ (t : Bool). cond t (skipped_behind l) 0) (eq-eqb b 45 m))
-
-  pub behind_empty : length w ≡ 0 → 0 ≡ skipped_behind w
-  behind_empty h = go w h
-    where
-      go : (w : List ℕ) → length w ≡ 0 → 0 ≡ skipped_behind w
-      go [] h = refl
-      go (b ∷ l) h = absurd (omega (arith, h))
-
-  pub behind_arrow : 0 < length w → is_digit (get_or w 0 0) ≡ false → 0 ≡ skipped_behind w
-  behind_arrow h e = go w h e
-    where
-      go : (w : List ℕ) → 0 < length w → is_digit (get_or w 0 0) ≡ false → 0 ≡ skipped_behind w
-      go [] h e = absurd (omega (arith, h))
-      go (b ∷ l) h e = sym (ap (λ (t : Bool). cond t (suc (zeros (b ∷ l))) 0) e)
-
-  pub behind_number : 0 < length w → is_digit (get_or w 0 0) ≡ true → zeros w + 1 ≡ skipped_behind w
-  behind_number h e = go w h e
-    where
-      go : (w : List ℕ) → 0 < length w → is_digit (get_or w 0 0) ≡ true → zeros w + 1 ≡ skipped_behind w
-      go [] h e = absurd (omega (arith, h))
-      go (b ∷ l) h e = let q : zeros (b ∷ l) + 1 ≡ suc (zeros (b ∷ l)) = omega arith in q ∙ sym (ap (λ (t : Bool). cond t (suc (zeros (b ∷ l))) 0) e)
-
 -- ---- what a word adds
 
 module _ (n : ℕ) (w : List ℕ) where
@@ -265,9 +192,6 @@ tail_is w k = take_all (length w - k) (drop k w) (omega (arith, length-drop k w)
 tail_length : (w : List ℕ) (k : ℕ) → length (take (length w - k) (drop k w)) ≡ length w - k
 tail_length w k = ap length (tail_is w k) ∙ length-drop k w
 
-pub skipped_tail : (w : List ℕ) → 0 < length w → is_digit (get_or w 0 0) ≡ false → get_or w 0 0 ≡ 45 → (r : ℕ) → r ≡ skipped_behind (take (length w - 1) (drop 1 w)) → r ≡ skipped w
-skipped_tail w h e m r q = q ∙ ap skipped_behind (tail_is w 1) ∙ skipped_signed w h e m
-
 pub below : (w : List ℕ) (k : ℕ) → 0 < length w → k ≡ skipped w → k < length w
 below w k h e = omega (arith, e, skipped_less w h)
 
@@ -293,30 +217,12 @@ sets_append (x ∷ a) b l n =
     let e : suc n + length a ≡ n + suc (length a) = omega arith in
     sets_append a b (set l n x) (suc n) ∙ ap (λ (k : ℕ). sets (sets (set l n x) (suc n) a) k b) e
 
--- bytes copied one after the other
-pub record Copying (bytes page₀ : List ℕ) (n : ℕ) (page : List ℕ) (i m : ℕ) : Type 0 where
-  pub long : length page ≡ length page₀
-  pub inside : i ≤ length bytes
-  pub there : m ≡ n + i
-  pub same : sets page m (drop i bytes) ≡ sets page₀ n bytes
-
-pub copying_first : (bytes page : List ℕ) (n : ℕ) → Copying bytes page n page 0 n
-copying_first bytes page n = record { long = refl; inside = omega arith; there = omega arith; same = refl }
-
-module _ (bytes page₀ : List ℕ) (n : ℕ) (page : List ℕ) (i m : ℕ) (c : Copying bytes page₀ n page i m) where
-  pub copying_more : i < length bytes → Copying bytes page₀ n (set page m (get_or bytes i 0)) (i + 1) (m + 1)
-  copying_more h =
-      let a : i + 1 ≡ suc i = omega arith in let b : m + 1 ≡ suc m = omega arith in
-      record {
-        long = length-set page m (get_or bytes i 0) ∙ c.long;
-        inside = omega (arith, h);
-        there = omega (arith, c.there);
-        same = ap (λ (j : ℕ). sets (set page m (get_or bytes i 0)) (m + 1) (drop j bytes)) a ∙ ap (λ (j : ℕ). sets (set page m (get_or bytes i 0)) j (drop (suc i) bytes)) b ∙
-            ap (sets page m) (sym (drop-cons bytes i 0 h)) ∙ c.same;
-      }
-
-  pub copying_done : length bytes ≤ i → (m ≡ n + length bytes) × (page ≡ sets page₀ n bytes)
-  copying_done h = (omega (arith, c.there, c.inside, h), ap (sets page m) (sym (drop_of_length-le bytes {i = i} h)) ∙ c.same)
+-- bytes copied to the part of a page from n on
+pub copied_there : (bytes new page : List ℕ) (n k : ℕ) → new ≡ bytes → k ≡ length bytes → n + length bytes ≤ length page → put_mid n k page new ≡ sets page n bytes
+copied_there bytes new page n k e f h =
+    put_mid-paste n k page new bytes (length bytes) e (sym f) refl
+    ∙ ap (λ (l : List ℕ). take n page ++ l ++ drop (n + length bytes) page) (take_all (length bytes) bytes (omega arith))
+    ∙ sym (sets-eq bytes page n h)
 
 -- a word is written: its gap, its sign, the bytes that are copied
 module _ (w page : List ℕ) (n k : ℕ) (minus : Bool) (some : 0 < length w) (room : n + length (piece n w) ≤ length page) (sk : k ≡ skipped w) (sg : minus ≡ sign_kept w k) where

@@ -1,23 +1,24 @@
 -- The loops over a text's words: what is left to write, and one turn.
 use mathlib.Core.Path.{◌≡◌, refl, sym, ◌∙◌, ap, subst}
 use mathlib.Core.List.{List, [], ◌∷◌, ◌++◌, append_assoc}
+use Rattle.std.specs.Prelude.{Option, None, Some}
 use Prim.Native.Nat.{ℕ, zero, suc, ◌+◌, ◌-◌, ◌≤◌, ◌<◌}
 use native.Mathlib.Omega.{arith}
-use lib.ListN.{length, take, drop, length-append, length-take, length-drop, drop_of_length-le}
+use lib.ListN.{length, take, drop, length-append, length-take, length-drop}
 use lib.Seq.{drop-drop, sets, sets-eq}
 use Rattle.language.specs.Syntax.{at}
 use Rattle.language.specs.Answers.{Result, fine, refuse}
 use Rattle.language.specs.Words.{Word, mark, number, named, place_word, Front, gap, word, bad, front, before, words_from, words_of}
 use Rattle.language.proofs.Reading.Payload.{same_words, not_are, front_right, right_place}
+use Rattle.words.specs.declared.Word as found
 use Rattle.words.specs.Next.{Next, no_more, next, stop, begun, next_in, next_from, told, found_from}
 use Rattle.words.proofs.Following.{words_after, words_next, Ahead, next_ahead}
 use Rattle.house_form.specs.House.{spelling, spaced, form, form_of, house_form_of}
 use Rattle.house_form.proofs.Copied.{tidy, word_copied}
 use Rattle.house_form.proofs.Length.{tidy_short}
-use Rattle.writing.specs.declared.Part.{Part}
 use Rattle.writing.specs.Pieces as P
 use Rattle.writing.specs.Pieces.{piece}
-use Rattle.writing.specs.Parts.{part_of, between, Readable}
+use Rattle.writing.specs.Parts.{word_in, between, Readable}
 use Rattle.writing.proofs.Pieces.{tidy_as, skipped_less, gap_short, sets_append}
 
 -- ---- a word's bytes in the text
@@ -59,12 +60,12 @@ pub record WordThere (text : List ℕ) (i p e : ℕ) : Type 0 where
   pub past : p < e
   pub within : e ≤ length text
 
--- what the place of the next word says: it stands there; or there is none
-pub data Seen (text : List ℕ) (i : ℕ) : Part → Type 0 where
-  word_there : {q : Part} → WordThere text i q.start q.end → Seen text i q
-  none_there : ((ws : List Word) → words_from (drop i text) 0 i ≡ fine ws → ws ≡ []) → Seen text i (record { start = 0; end = 0 })
+-- the next word stands there; or there is none
+pub data Seen (text : List ℕ) (i : ℕ) : Option found.Word → Type 0 where
+  word_there : {w : found.Word} → WordThere text i w.start w.end → Seen text i (Some w)
+  none_there : ((ws : List Word) → words_from (drop i text) 0 i ≡ fine ws → ws ≡ []) → Seen text i None
 
-pub seen : (text : List ℕ) (i : ℕ) → Seen text i (part_of (found_from text i))
+pub seen : (text : List ℕ) (i : ℕ) → Seen text i (word_in (found_from text i))
 seen text i = by (next_from text i) refl
   where
     there : (w : Word) (e : ℕ) → next_from text i ≡ next w e → WordThere text i (place_word w) e
@@ -72,31 +73,31 @@ seen text i = by (next_from text i) refl
         let a = subst (Ahead i (length text)) q (next_ahead text i) in
         record { is = w; words = words_next text i ∙ ap (words_after text) q; spelled = spelled_in text (drop i text) i refl w e q; from = a.0; past = a.1; within = a.2 }
 
-    by : (n : Next) → next_from text i ≡ n → Seen text i (part_of (told n))
+    by : (n : Next) → next_from text i ≡ n → Seen text i (word_in (told n))
     by no_more q = none_there λ ws e. sym (same_words (sym (words_next text i ∙ ap (words_after text) q) ∙ e))
     by (next (mark m p) e) q = word_there (there (mark m p) e q)
     by (next (number p z) e) q = word_there (there (number p z) e q)
     by (next (named (at p x)) e) q = word_there (there (named (at p x)) e q)
     by (stop r p) q = none_there λ ws e. absurd (not_are (sym (words_next text i ∙ ap (words_after text) q) ∙ e))
 
--- the code goes on where a word was found past the place, and stops where none was
-module _ (text : List ℕ) (i : ℕ) (q : Part) (e : q ≡ part_of (found_from text i)) where
-  found : Seen text i q
-  found = subst (Seen text i) (sym e) (seen text i)
+-- as the code finds it
+module _ (text : List ℕ) (i : ℕ) {q : Option found.Word} (e : q ≡ word_in (found_from text i)) where
+  seen_so : Seen text i q
+  seen_so = subst (Seen text i) (sym e) (seen text i)
 
-  pub word_found : i < q.end → WordThere text i q.start q.end
-  word_found h = go q found h
+  pub word_found : {w : found.Word} → q ≡ Some w → WordThere text i w.start w.end
+  word_found {w} h = go (Some w) (subst (Seen text i) h seen_so) refl
     where
-      go : (q : Part) → Seen text i q → i < q.end → WordThere text i q.start q.end
-      go q (word_there t) h = t
-      go _ (none_there n) h = absurd (omega (arith, h))
+      go : (o : Option found.Word) → Seen text i o → o ≡ Some w → WordThere text i w.start w.end
+      go _ (word_there {w = v} t) h = let v-is : v ≡ w = cc in subst (λ (v : found.Word). WordThere text i v.start v.end) v-is t
+      go _ (none_there n) h = absurd cc
 
-  pub none_found : q.end ≤ i → (ws : List Word) → words_from (drop i text) 0 i ≡ fine ws → ws ≡ []
-  none_found h ws a = go q found h
+  pub none_found : q ≡ None → (ws : List Word) → words_from (drop i text) 0 i ≡ fine ws → ws ≡ []
+  none_found h = go None (subst (Seen text i) h seen_so) refl
     where
-      go : (q : Part) → Seen text i q → q.end ≤ i → ws ≡ []
-      go q (word_there t) h = absurd (omega (arith, h, t.from, t.past))
-      go _ (none_there n) h = n ws a
+      go : (o : Option found.Word) → Seen text i o → o ≡ None → (ws : List Word) → words_from (drop i text) 0 i ≡ fine ws → ws ≡ []
+      go _ (word_there t) h = absurd cc
+      go _ (none_there n) h = n
 
 -- ---- what is left to write behind n bytes
 
@@ -200,10 +201,6 @@ module _ (text : List ℕ) (i n : ℕ) (c : Counting text i n) where
   -- no word is left
   pub counting_done : c.left ≡ [] → n ≡ length (house_form_of text)
   counting_done h = omega (arith, c.whole, ap length (ap (rest n) h ∙ rest_none n))
-
-  pub no_bytes : length text ≤ i → c.left ≡ []
-  unfolding words_from
-  no_bytes h = sym (same_words (sym (ap (λ (l : List ℕ). words_from l 0 i) (drop_of_length-le text {i = i} h)) ∙ c.are))
 
 -- ---- writing
 

@@ -1,16 +1,7 @@
-use Prim.Native.Nat.{◌-◌, ◌≤◌}
-use mathlib.Core.Path.{◌≡◌}
+use mathlib.Core.Path.{sym, ◌∙◌}
 use native.Mathlib.Omega.{arith}
-use Rattle.gate.specs.Steps.{copied}
-use Rattle.gate.proofs.Programs.{copied_none, copied_more, copied_all}
-use Rattle.std.proofs.Common.{rules}
+use lib.Seq.{length-take-le}
 use Rattle.gate.proofs.copy_tree.Goals as goal
 
-pub loop-i-init : goal.loop-i-init
-loop-i-init c = (copied_none _ _, omega arith)
-
-pub loop-i-preserved : goal.loop-i-preserved
-loop-i-preserved c = (copied_more _ _ _ _ _ c.loop-i.invariant.0 c.entry.ensures, omega arith)
-
-pub returns : goal.returns
-returns c = copied_all _ _ _ _ _ c.loop-i.invariant.0 (omega arith)
+pub copy_from_slice-requires : goal.copy_from_slice-requires
+copy_from_slice-requires c = length-take-le 4096 c.args.prog.now (omega arith) ∙ sym (length-take-le 4096 c.args.tree.now c.requires)

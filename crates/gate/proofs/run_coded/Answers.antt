@@ -6,7 +6,6 @@ use Rattle.gate.specs.Steps.{numbers_of}
 use Rattle.machine.specs.Program.{tree_in, codes_in}
 use Rattle.gate.proofs.Came.{cleared_came, read_limits}
 use Rattle.gate.proofs.Programs.{front_room}
-use Rattle.std.proofs.Common.{rules}
 use Rattle.gate.proofs.run_coded.Goals as goal
 
 pub slice_bounds-run_program-end : goal.slice_bounds-run_program-end

@@ -2,8 +2,10 @@ use Prim.Native.Nat.{ℕ}
 use native.Mathlib.Omega.{arith}
 use lib.ListN.{length-replicate}
 use Rattle.gate.proofs.Programs.{zeros_blank, coded_run}
-use Rattle.std.proofs.Common.{rules}
 use Rattle.gate.proofs.run_tree.Goals as goal
+
+pub write_program-requires : goal.write_program-requires
+write_program-requires c = c.requires.1
 
 pub run_written-requires : goal.run_written-requires
 run_written-requires c = c.requires.0

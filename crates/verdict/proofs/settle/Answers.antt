@@ -1,6 +1,4 @@
 -- `settle`: both tables are zeros when they are lent to the judge, and are cleared again.
-use mathlib.Core.Path.{◌∙◌}
-use lib.Seq.{length_front}
 use Rattle.verdict.proofs.Clearing.{part_long, settled}
 use Rattle.std.proofs.Common.{rules}
 use Rattle.verdict.proofs.settle.Goals as goal
@@ -13,5 +11,5 @@ slice_bounds-first_refused-end-4 c = part_long 4096 c.clear_words-2.new.words (s
 
 pub returns : goal.returns
 returns c =
-    settled 4096 _ _ _ _ _ _ c.clear_words.new.words c.clear_words-2.new.words c.first_refused-refused.new.scopes c.first_refused-refused.new.notes _ _ c.requires.1 c.requires.2 c.clear_words.ensures c.clear_words-2.ensures
-    c.first_refused-refused.ensures c.first_refused-refused.auto.scopes c.first_refused-refused.auto.notes c.clear_words-3.ensures c.clear_words-4.ensures
+    settled 4096 _ _ _ _ _ _ c.clear_words.new.words c.clear_words-2.new.words c.first_refused-judged.new.scopes c.first_refused-judged.new.notes _ _ c.requires.1 c.requires.2 c.clear_words.ensures c.clear_words-2.ensures
+    c.first_refused-judged.ensures c.first_refused-judged.auto.scopes c.first_refused-judged.auto.notes c.clear_words-3.ensures c.clear_words-4.ensures
