@@ -1,4 +1,3 @@
-pub mod Tables
 pub mod Ways
 pub mod Pinned
 pub mod PurseWays

@@ -3,66 +3,30 @@ use mathlib.Core.Path.{◌≡◌, refl, sym, ◌∙◌, ap, subst}
 use mathlib.Core.Bool.{Bool, true, false, cond}
 use mathlib.Core.List.{List, [], ◌∷◌, ◌++◌}
 use mathlib.Core.Option.{Option, none, some}
-use Prim.Native.Nat.{ℕ, ◌-◌, ◌≤◌, ◌<◌}
+use Prim.Native.Nat.{ℕ, ◌≤◌, ◌<◌}
 use native.Mathlib.Omega.{arith}
 use lib.Dec.{leb}
 use lib.IntN.{ℤ}
-use lib.ListN.{length, get_or, set, take, drop, length-append, length-drop}
+use lib.ListN.{length, get_or, take, drop, length-append, length-drop}
 use lib.Seq.{length-take-le}
-use borrow.Author.Tests.{le-leb, lt-leb}
-use Rattle.language.specs.Answers.{Answer, done, refused, stopped, number_of, place_of, made_of}
+use borrow.Author.Tests.{le-leb, lt-leb, leb-true}
+use mir.Val.{bool_byte}
+use Rattle.language.specs.Answers.{Answer, done, refused, stopped}
 use Rattle.language.specs.Limits.{Limits}
 use Rattle.answers.specs.declared.Report.{Report}
 use Rattle.answers.specs.Answers.{meant}
 use Rattle.gate.specs.Lent.{left}
-use Rattle.purse_model.specs.Journal.{purse_count, Entry, Back, back, kind_of, entry_of, read_back}
-use Rattle.purse_model.specs.Purses.{Work, runs, answer_number, Outcome, Comes, charged, Step, World, world, after, steps}
-use Rattle.purses.specs.declared.CreditAnswer.{CreditAnswer}
-use Rattle.purses.specs.declared.CreditAnswer.TheVariants as credit
-use Rattle.purses.specs.declared.CreditBegun.{CreditBegun}
-use Rattle.purses.specs.Meant.{credit_outcome, CreditBegins, CreditComes, pending_step, Makes}
-use Rattle.purse_run.specs.declared.PurseAnswer.{PurseAnswer}
-use Rattle.purse_run.specs.declared.PurseAnswer.TheVariants as run
+use Rattle.purse_model.specs.Journal.{purse_count, credit, entry, Back, back, kind_of, entry_of, read_back}
+use Rattle.purse_model.specs.Purses.{Work, runs, refusal_number, answer_number, Outcome, Comes, charged, Step, world, after, steps}
+use Rattle.std.specs.Prelude.{Result, Ok, Err}
+use Rattle.purses.specs.declared.PurseRefusal.{PurseRefusal}
+use Rattle.purses.specs.Meant.{refusal_said, credit_outcome, CreditBegins, CreditComes, pending_step, Makes}
 use Rattle.purse_run.specs.declared.RunBegun.{RunBegun}
-use Rattle.purse_run.specs.Meant.{refused_answer, run_outcome, RunReady, Kept, RunBegins, PurseRun}
+use Rattle.purse_run.specs.Meant.{refused_answer, run_outcome, report_of, Kept, RunBegins, PurseRun}
 use Rattle.mahrullis.specs.Reports.{report_entries}
-use Rattle.mahrullis.specs.PurseReports.{pending_entries, pending_words, pending_of, credit_words, charge_words, run_words, credit_number, run_number, run_report, purses_shown, word_step, ShowInto, CreditInto, CreditBeginInto, StepInto, RunsSo, told_whole, PurseRunBeginInto, PurseRunInto}
-use Rattle.mahrullis.proofs.Tables.{seven}
+use Rattle.mahrullis.specs.PurseReports.{pending_entries, pending_words, pending_of, run_left, purse_report, purses_shown, word_step, ShowInto, CreditInto, CreditBeginInto, StepInto, RunsSo, told_whole, PurseRunBeginInto, PurseRunInto}
 
--- ---- entries put one by one
-
-five : (l : List ℕ) {a b c d e : ℕ} → 5 ≤ length l → set (set (set (set (set l 0 a) 1 b) 2 c) 3 d) 4 e ≡ (a ∷ b ∷ c ∷ d ∷ e ∷ []) ++ drop 5 l
-five [] h = absurd (omega arith)
-five (_ ∷ []) h = absurd (omega arith)
-five (_ ∷ _ ∷ []) h = absurd (omega arith)
-five (_ ∷ _ ∷ _ ∷ []) h = absurd (omega arith)
-five (_ ∷ _ ∷ _ ∷ _ ∷ []) h = absurd (omega arith)
-five (_ ∷ _ ∷ _ ∷ _ ∷ _ ∷ l) h = refl
-
-next : {s t u : List ℕ} (i a : ℕ) → t ≡ set s i a → s ≡ u → t ≡ set u i a
-next i a e f = e ∙ ap (λ (x : List ℕ). set x i a) f
-
-pub five_put : (l : List ℕ) {l₁ l₂ l₃ l₄ l₅ : List ℕ} {a b c d e : ℕ} → 5 ≤ length l → l₁ ≡ set l 0 a → l₂ ≡ set l₁ 1 b → l₃ ≡ set l₂ 2 c → l₄ ≡ set l₃ 3 d → l₅ ≡ set l₄ 4 e →
-    l₅ ≡ (a ∷ b ∷ c ∷ d ∷ e ∷ []) ++ drop 5 l
-five_put l h e₁ e₂ e₃ e₄ e₅ = next 4 _ e₅ (next 3 _ e₄ (next 2 _ e₃ (next 1 _ e₂ e₁))) ∙ five l h
-
-pub seven_put : (l : List ℕ) {l₁ l₂ l₃ l₄ l₅ l₆ l₇ : List ℕ} {a b c d e f g : ℕ} → 7 ≤ length l → l₁ ≡ set l 0 a → l₂ ≡ set l₁ 1 b → l₃ ≡ set l₂ 2 c → l₄ ≡ set l₃ 3 d →
-    l₅ ≡ set l₄ 4 e → l₆ ≡ set l₅ 5 f → l₇ ≡ set l₆ 6 g → l₇ ≡ (a ∷ b ∷ c ∷ d ∷ e ∷ f ∷ g ∷ []) ++ drop 7 l
-seven_put l h e₁ e₂ e₃ e₄ e₅ e₆ e₇ = next 6 _ e₇ (next 5 _ e₆ (next 4 _ e₅ (next 3 _ e₄ (next 2 _ e₃ (next 1 _ e₂ e₁))))) ∙ seven l h
-
--- ---- what is put down for an answer
-
-pub credit_put : {r : CreditAnswer} (s : CreditAnswer) (place p a : ℕ) (l m : List ℕ) → r ≡ s → m ≡ credit_words s place p a ++ drop pending_entries l →
-    m ≡ credit_words r place p a ++ drop pending_entries l
-credit_put s place p a l m e x = x ∙ ap (λ (t : CreditAnswer). credit_words t place p a ++ drop pending_entries l) (sym e)
-
-pub run_put : {r : PurseAnswer} (s : PurseAnswer) (place p : ℕ) (l m : List ℕ) → r ≡ s → m ≡ run_words s place p ++ drop pending_entries l →
-    m ≡ run_words r place p ++ drop pending_entries l
-run_put s place p l m e x = x ∙ ap (λ (t : PurseAnswer). run_words t place p ++ drop pending_entries l) (sym e)
-
-pub answer_put : {r : PurseAnswer} (s : PurseAnswer) (l m : List ℕ) (n : ℕ) → r ≡ s → (n ≡ run_number s) × (m ≡ run_report s ++ drop report_entries l) →
-    (n ≡ run_number r) × (m ≡ run_report r ++ drop report_entries l)
-answer_put s l m n e x = (x.0 ∙ ap run_number (sym e), x.1 ∙ ap (λ (t : PurseAnswer). run_report t ++ drop report_entries l) (sym e))
+-- ---- what is put down for a run
 
 none_words : (p u place numbers : ℕ) (a : Answer) → refused_answer a ≡ true → pending_words none 0 0 ≡ pending_words (charged p a u) place numbers
 none_words p u place numbers done e = let z : ◌≡◌ {A = ℕ} 0 1 = ap (elim [ false ↦ 0 | true ↦ 1 ]) e in absurd (omega arith)
@@ -74,27 +38,11 @@ some_words p u place numbers done e = refl
 some_words p u place numbers (refused r q) e = let z : ◌≡◌ {A = ℕ} 1 0 = ap (elim [ false ↦ 0 | true ↦ 1 ]) e in absurd (omega arith)
 some_words p u place numbers (stopped w q) e = refl
 
-pub charge_none : (place p : ℕ) (r : Report) (l m : List ℕ) → refused_answer (meant r.answer) ≡ true → m ≡ pending_words none 0 0 ++ drop pending_entries l →
-    m ≡ charge_words place p r ++ drop pending_entries l
-charge_none place p r l m e x = x ∙ ap (λ (w : List ℕ). w ++ drop pending_entries l) (none_words p r.units place r.numbers (meant r.answer) e)
+pub left_none : (b : RunBegun) (p : ℕ) → refused_answer (meant b.report.answer) ≡ true → pending_words none 0 0 ≡ run_left b p
+left_none b p e = none_words p b.report.units b.place b.report.numbers (meant b.report.answer) e
 
-pub charge_some : (place p : ℕ) (r : Report) (l m : List ℕ) → refused_answer (meant r.answer) ≡ false → m ≡ (2 ∷ place ∷ p ∷ r.units ∷ r.numbers ∷ []) ++ drop pending_entries l →
-    m ≡ charge_words place p r ++ drop pending_entries l
-charge_some place p r l m e x = x ∙ ap (λ (w : List ℕ). w ++ drop pending_entries l) (some_words p r.units place r.numbers (meant r.answer) e)
-
--- a report's entries: what the answer gives, and the counts
-abbrev entries : Report → (code place made : ℕ) → List ℕ
-entries said code place made = code ∷ place ∷ said.units ∷ said.bindings ∷ said.cells ∷ said.numbers ∷ made ∷ []
-
-pub said_put : (said : Report) (l m : List ℕ) (code place made : ℕ) → code ≡ number_of (meant said.answer) → place ≡ place_of (meant said.answer) →
-    made ≡ made_of (meant said.answer) →
-    m ≡ (code ∷ place ∷ said.units ∷ said.bindings ∷ said.cells ∷ said.numbers ∷ made ∷ []) ++ drop report_entries l →
-    (code ≡ run_number (run.Ran said)) × (m ≡ run_report (run.Ran said) ++ drop report_entries l)
-said_put said l m code place made e f g x = (
-  e,
-  x ∙ ap (λ (c : ℕ). entries said c place made ++ drop report_entries l) e ∙ ap (λ (q : ℕ). entries said (number_of (meant said.answer)) q made ++ drop report_entries l) f ∙
-      ap (λ (k : ℕ). entries said (number_of (meant said.answer)) (place_of (meant said.answer)) k ++ drop report_entries l) g,
-)
+pub left_some : (b : RunBegun) (p : ℕ) → refused_answer (meant b.report.answer) ≡ false → 2 ∷ b.place ∷ p ∷ b.report.units ∷ b.report.numbers ∷ [] ≡ run_left b p
+left_some b p e = some_words p b.report.units b.place b.report.numbers (meant b.report.answer) e
 
 -- ---- the first 64 entries of a table of purses
 
@@ -115,40 +63,36 @@ show_into J purses Q place sound r purses' h e f g =
 
 -- ---- credit
 
-number_so : (r : CreditAnswer) (p a : ℕ) → answer_number (credit_outcome r p a).says ≡ credit_number r
-number_so credit.Done p a = refl
-number_so credit.Purse p a = refl
-number_so credit.Journal p a = refl
-number_so credit.Full p a = refl
-
-gives_so : (r : CreditAnswer) (p a : ℕ) → length (credit_outcome r p a).gives ≡ 0
-gives_so credit.Done p a = refl
-gives_so credit.Purse p a = refl
-gives_so credit.Journal p a = refl
-gives_so credit.Full p a = refl
-
 module _ (J : List ℕ) (p a : ℕ) (purses Q : List ℕ) (m : ℕ) (purses' : List ℕ) (h : purse_count ≤ length purses) (g : purses' ≡ Q ++ drop purse_count purses) where
   shown_so : Q ≡ (read_back J).purses → purses_shown J purses ≡ purses'
   shown_so e = ap (λ (P : List ℕ). P ++ drop purse_count purses) (sym e) ∙ sym g
 
-  pub credit_into : (n : ℕ) (r : CreditAnswer) (J' : List ℕ) → CreditComes J p a n r J' Q → m ≡ credit_number r → CreditInto J p a purses n m J' purses'
+  pub credit_into : (n : ℕ) (r : Result (Unit {0}) PurseRefusal) (J' : List ℕ) → CreditComes J p a n r J' Q → m ≡ answer_number (credit_outcome r p a).says →
+      CreditInto J p a purses n m J' purses'
   credit_into n r J' C e =
-      subst (λ (x : ℕ). CreditInto J p a purses n x J' purses') (number_so r p a ∙ sym e)
+      subst (λ (x : ℕ). CreditInto J p a purses n x J' purses') (sym e)
       (subst (λ (x : List ℕ). CreditInto J p a purses n (answer_number (credit_outcome r p a).says) x purses') (sym C.stored)
       (subst (CreditInto J p a purses n (answer_number (credit_outcome r p a).says) (after n (steps J (credit_outcome r p a)) (world J [])).journal) (shown_so C.shown)
       (CreditInto.credits_so h C.comes)))
 
-  pub credit_begin_into : (pending : List ℕ) (r : CreditBegun) (pending' : List ℕ) → pending_entries ≤ length pending → CreditBegins J p a r Q → m ≡ credit_number r.answer →
-      pending' ≡ credit_words r.answer r.place p a ++ drop pending_entries pending → CreditBeginInto J p a purses pending m purses' pending'
-  credit_begin_into pending r pending' k B e f =
-      let o = credit_outcome r.answer p a in
-      let w : pending_of J o ++ drop pending_entries pending ≡ pending' =
-      ap (λ (n : ℕ). pending_words o.writes (read_back J).place n ++ drop pending_entries pending) (gives_so r.answer p a) ∙
-      ap (λ (n : ℕ). pending_words o.writes n 0 ++ drop pending_entries pending) (sym B.at) ∙ sym f in
-      subst (λ (x : ℕ). CreditBeginInto J p a purses pending x purses' pending') (number_so r.answer p a ∙ sym e)
-      (subst (λ (x : List ℕ). CreditBeginInto J p a purses pending (answer_number o.says) purses' x) w
-      (subst (λ (x : List ℕ). CreditBeginInto J p a purses pending (answer_number o.says) x (pending_of J o ++ drop pending_entries pending)) (shown_so B.shown)
-      (CreditBeginInto.begins h k B.comes)))
+  module _ (pending pending' : List ℕ) (k : pending_entries ≤ length pending) where
+    begin_into : (r : Result ℕ PurseRefusal) → CreditBegins J p a r Q → m ≡ answer_number (credit_outcome r p a).says →
+        pending_of J (credit_outcome r p a) ++ drop pending_entries pending ≡ pending' → CreditBeginInto J p a purses pending m purses' pending'
+    begin_into r B e f =
+        let o = credit_outcome r p a in
+        subst (λ (x : ℕ). CreditBeginInto J p a purses pending x purses' pending') (sym e)
+        (subst (λ (x : List ℕ). CreditBeginInto J p a purses pending (answer_number o.says) purses' x) f
+        (subst (λ (x : List ℕ). CreditBeginInto J p a purses pending (answer_number o.says) x (pending_of J o ++ drop pending_entries pending)) (shown_so B.shown)
+        (CreditBeginInto.begins h k B.comes)))
+
+    pub credit_begin_into : (place : ℕ) → CreditBegins J p a (Ok place) Q → m ≡ 0 → pending' ≡ pending_words (some (entry credit p a)) place 0 ++ drop pending_entries pending →
+        CreditBeginInto J p a purses pending m purses' pending'
+    credit_begin_into place B e f =
+        begin_into (Ok place) B e (ap (λ (n : ℕ). pending_words (some (entry credit p a)) n 0 ++ drop pending_entries pending) (sym B.ready.0) ∙ sym f)
+
+    pub credit_refused_into : (x : PurseRefusal) → CreditBegins J p a (Err x) Q → m ≡ refusal_number (refusal_said x) → pending' ≡ pending_words none 0 0 ++ drop pending_entries pending →
+        CreditBeginInto J p a purses pending m purses' pending'
+    credit_refused_into x B e f = begin_into (Err x) B e (sym f)
 
 -- ---- tables that are too short
 
@@ -170,7 +114,20 @@ then_short b k l e g = ap (λ (t : Bool). cond t (leb k l) false) e ∙ lt-leb k
 pub then_long : (b : Bool) (k l : ℕ) → b ≡ true → k ≤ l → cond b (leb k l) false ≡ true
 then_long b k l e g = ap (λ (t : Bool). cond t (leb k l) false) e ∙ le-leb k l g
 
+pub whole_told : (purses report : List ℕ) → told_whole purses report ≡ true → (purse_count ≤ length purses) × (report_entries ≤ length report)
+whole_told purses report e = by (leb purse_count (length purses)) refl (leb report_entries (length report)) refl e
+  where
+    by : (b : Bool) → leb purse_count (length purses) ≡ b → (d : Bool) → leb report_entries (length report) ≡ d → cond b d false ≡ true →
+        (purse_count ≤ length purses) × (report_entries ≤ length report)
+    by true f true g h = (leb-true purse_count (length purses) f, leb-true report_entries (length report) g)
+    by true f false g h = let z : ◌≡◌ {A = ℕ} 0 1 = ap (elim [ false ↦ 0 | true ↦ 1 ]) h in absurd (omega arith)
+    by false f d g h = let z : ◌≡◌ {A = ℕ} 0 1 = ap (elim [ false ↦ 0 | true ↦ 1 ]) h in absurd (omega arith)
+
 -- ---- a step
+
+pub yes_number : (b : Bool) → bool_byte b ≡ cond b 1 0
+yes_number true = refl
+yes_number false = refl
 
 module _ (pending : List ℕ) (k : ℕ) (held : List ℤ) (J : List ℕ) (bank : List ℤ) where
   same_step : (n n' i i' p p' a a' m m' : ℕ) → n ≡ n' → i ≡ i' → p ≡ p' → a ≡ a' → m ≡ m' →
@@ -188,50 +145,52 @@ module _ (pending : List ℕ) (k : ℕ) (held : List ℤ) (J : List ℕ) (bank :
 
 module _ (J : List ℕ) (p : ℕ) (L : Limits) (W : Work) (purses report : List ℕ) (tree words stack scopes notes waiting bindings cells : List ℕ) (held : List ℤ)
     (Q : List ℕ) (m : ℕ) (purses' report' : List ℕ) where
-  abbrev End : PurseAnswer → Outcome
+  abbrev End : Result Report PurseRefusal → Outcome
   End a = run_outcome a p (λ x. left x tree words stack scopes notes waiting bindings cells held)
 
-  abbrev So : PurseAnswer → Type 0
+  -- the number and the report that are put down
+  abbrev Says : Result Report PurseRefusal → Type 0
+  Says a = (m ≡ answer_number (End a).says) × (report' ≡ purse_report (End a).says ++ drop report_entries report)
+
+  abbrev So : Result Report PurseRefusal → Type 0
   So a = RunsSo J p L W purses report (End a) m tree (words ∷ stack ∷ scopes ∷ notes ∷ waiting ∷ []) (bindings ∷ cells ∷ []) held purses' report'
 
-  so : (a : PurseAnswer) → Comes J (runs p L W) (End a) → Kept W a tree words stack scopes notes waiting bindings cells held → purses' ≡ purses_shown J purses →
-      m ≡ run_number a → report' ≡ run_report a ++ drop report_entries report → So a
-  so (run.Ran r) c k s e f = record { comes = c; answer = e; tree_so = refl; works_so = refl; stores_so = refl; held_so = refl; shown = s; report_so = f }
-  so run.Purse c k s e f =
-      record { comes = c; answer = e; tree_so = k.tree_same; works_so = k.works_same; stores_so = k.stores_same; held_so = k.held_same; shown = s; report_so = f }
-  so run.Journal c k s e f =
-      record { comes = c; answer = e; tree_so = k.tree_same; works_so = k.works_same; stores_so = k.stores_same; held_so = k.held_same; shown = s; report_so = f }
-  so run.Full c k s e f =
-      record { comes = c; answer = e; tree_so = k.tree_same; works_so = k.works_same; stores_so = k.stores_same; held_so = k.held_same; shown = s; report_so = f }
-
-  words_so : (a : PurseAnswer) (place : ℕ) → place ≡ (read_back J).place → RunReady a place p J held → run_words a place p ≡ pending_of J (End a)
-  words_so (run.Ran r) place e y =
-      ap (λ (i : ℕ). pending_words (charged p (meant r.answer) r.units) i r.numbers) e ∙
-      ap (λ (i : ℕ). pending_words (charged p (meant r.answer) r.units) (read_back J).place i) (sym (length-take-le r.numbers held y.2))
-  words_so run.Purse place e y = refl
-  words_so run.Journal place e y = refl
-  words_so run.Full place e y = refl
+  so : (a : Result Report PurseRefusal) → Comes J (runs p L W) (End a) → Kept W a tree words stack scopes notes waiting bindings cells held → purses' ≡ purses_shown J purses → Says a → So a
+  so (Ok r) c k s e = record { comes = c; answer = e.0; tree_so = refl; works_so = refl; stores_so = refl; held_so = refl; shown = s; report_so = e.1 }
+  so (Err x) c k s e =
+      record { comes = c; answer = e.0; tree_so = k.tree_same; works_so = k.works_same; stores_so = k.stores_same; held_so = k.held_same; shown = s; report_so = e.1 }
 
   shown_as : purses' ≡ Q ++ drop purse_count purses → Q ≡ (read_back J).purses → purses' ≡ purses_shown J purses
   shown_as g e = g ∙ ap (λ (P : List ℕ). P ++ drop purse_count purses) e
 
-  pub run_begin_into : (pending : List ℕ) (r : RunBegun) (pending' : List ℕ) → cond (told_whole J p L W purses report) (leb pending_entries (length pending)) false ≡ true →
-      purses' ≡ Q ++ drop purse_count purses → RunBegins J p L W r tree words stack scopes notes waiting bindings cells held Q →
-      pending' ≡ run_words r.answer r.place p ++ drop pending_entries pending →
-      (m ≡ run_number r.answer) × (report' ≡ run_report r.answer ++ drop report_entries report) →
-      PurseRunBeginInto J p L W purses report pending m tree (words ∷ stack ∷ scopes ∷ notes ∷ waiting ∷ []) (bindings ∷ cells ∷ []) held purses' report' pending'
-  run_begin_into pending r pending' h g B f e =
-      let w : pending_of J (End r.answer) ++ drop pending_entries pending ≡ pending' =
-      ap (λ (x : List ℕ). x ++ drop pending_entries pending) (sym (words_so r.answer r.place B.at B.ready)) ∙ sym f in
-      subst
-      (λ (x : List ℕ). PurseRunBeginInto J p L W purses report pending m tree (words ∷ stack ∷ scopes ∷ notes ∷ waiting ∷ []) (bindings ∷ cells ∷ []) held purses' report' x)
-      w (PurseRunBeginInto.begins h (so r.answer B.comes B.kept (shown_as g B.shown) e.0 e.1))
+  module _ (pending pending' : List ℕ) (h : cond (told_whole purses report) (leb pending_entries (length pending)) false ≡ true) (g : purses' ≡ Q ++ drop purse_count purses) where
+    begin_run_into : (r : Result RunBegun PurseRefusal) → RunBegins J p L W r tree words stack scopes notes waiting bindings cells held Q → Says (report_of r) →
+        pending_of J (End (report_of r)) ++ drop pending_entries pending ≡ pending' →
+        PurseRunBeginInto J p L W purses report pending m tree (words ∷ stack ∷ scopes ∷ notes ∷ waiting ∷ []) (bindings ∷ cells ∷ []) held purses' report' pending'
+    begin_run_into r B e f =
+        subst
+        (λ (x : List ℕ). PurseRunBeginInto J p L W purses report pending m tree (words ∷ stack ∷ scopes ∷ notes ∷ waiting ∷ []) (bindings ∷ cells ∷ []) held purses' report' x)
+        f (PurseRunBeginInto.begins h (so (report_of r) B.comes B.kept (shown_as g B.shown) e))
 
-  pub run_into : (n : ℕ) (bank : List ℤ) (a : PurseAnswer) (J' : List ℕ) (bank' : List ℤ) → cond (told_whole J p L W purses report) (leb (length W.output) (length bank)) false ≡ true →
-      purses' ≡ Q ++ drop purse_count purses → PurseRun J p n L W bank a tree words stack scopes notes waiting bindings cells held J' bank' Q →
-      (m ≡ run_number a) × (report' ≡ run_report a ++ drop report_entries report) →
+    pub run_begin_into : (b : RunBegun) → RunBegins J p L W (Ok b) tree words stack scopes notes waiting bindings cells held Q → Says (Ok b.report) →
+        pending' ≡ run_left b p ++ drop pending_entries pending →
+        PurseRunBeginInto J p L W purses report pending m tree (words ∷ stack ∷ scopes ∷ notes ∷ waiting ∷ []) (bindings ∷ cells ∷ []) held purses' report' pending'
+    run_begin_into b B e f =
+        let w : run_left b p ≡ pending_of J (End (Ok b.report)) =
+        ap (λ (i : ℕ). pending_words (charged p (meant b.report.answer) b.report.units) i b.report.numbers) B.ready.0 ∙
+        ap (λ (i : ℕ). pending_words (charged p (meant b.report.answer) b.report.units) (read_back J).place i) (sym (length-take-le b.report.numbers held B.ready.3)) in
+        begin_run_into (Ok b) B e (ap (λ (x : List ℕ). x ++ drop pending_entries pending) (sym w) ∙ sym f)
+
+    pub run_refused_into : (x : PurseRefusal) → RunBegins J p L W (Err x) tree words stack scopes notes waiting bindings cells held Q → Says (Err x) →
+        pending' ≡ pending_words none 0 0 ++ drop pending_entries pending →
+        PurseRunBeginInto J p L W purses report pending m tree (words ∷ stack ∷ scopes ∷ notes ∷ waiting ∷ []) (bindings ∷ cells ∷ []) held purses' report' pending'
+    run_refused_into x B e f = begin_run_into (Err x) B e (sym f)
+
+  pub run_into : (n : ℕ) (bank : List ℤ) (a : Result Report PurseRefusal) (J' : List ℕ) (bank' : List ℤ) →
+      cond (told_whole purses report) (leb (length W.output) (length bank)) false ≡ true →
+      purses' ≡ Q ++ drop purse_count purses → PurseRun J p n L W bank a tree words stack scopes notes waiting bindings cells held J' bank' Q → Says a →
       PurseRunInto J p L W purses report n bank m tree (words ∷ stack ∷ scopes ∷ notes ∷ waiting ∷ []) (bindings ∷ cells ∷ []) held purses' report' J' bank'
   run_into n bank a J' bank' h g R e =
       subst
       (λ (x : List ℕ). PurseRunInto J p L W purses report n bank m tree (words ∷ stack ∷ scopes ∷ notes ∷ waiting ∷ []) (bindings ∷ cells ∷ []) held purses' report' x bank')
-      (sym R.made.in_journal) (PurseRunInto.runs_so h (so a R.comes R.kept (shown_as g R.shown) e.0 e.1) R.made.in_bank)
+      (sym R.made.in_journal) (PurseRunInto.runs_so h (so a R.comes R.kept (shown_as g R.shown) e) R.made.in_bank)

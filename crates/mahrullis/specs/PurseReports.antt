@@ -1,19 +1,17 @@
 -- What the exported functions of purses answer and put into the tables lent for it: what a call comes to, in numbers.
 use Rattle.std.specs.Prelude.{◌≡◌, Bool, true, false, cond, List, [], ◌∷◌, ◌++◌, ℕ, ◌≤◌, ◌<◌, leb, ℤ, length, get_or, drop}
+use Rattle.std.specs.Prelude.{Some, None}
+use Rattle.std.specs.Prelude as rust
 use Rattle.std.proofs.Math.Option.{Option, none, some}
-use Rattle.language.specs.Answers.{number_of}
 use Rattle.language.specs.Limits.{Limits}
-use Rattle.language.specs.Promises.{untouched, Ran}
-use Rattle.purse_model.specs.Journal.{purse_count, Entry, kind_number, kind_of, entry_of, Back, read_back}
-use Rattle.purse_model.specs.Purses.{Work, Call, credits, runs, PURSE, JOURNAL, FULL, charged, Said, refuses, credited, answers, refusal_number, answer_number, Outcome, Comes, Step, world, after, steps}
-use Rattle.answers.specs.declared.Report.{Report}
-use Rattle.answers.specs.Answers.{meant, said}
-use Rattle.purses.specs.declared.CreditAnswer.{CreditAnswer}
-use Rattle.purses.specs.declared.CreditAnswer.TheVariants as credit
-use Rattle.purses.specs.Meant.{credit_outcome, pending_step, Makes}
-use Rattle.purse_run.specs.declared.PurseAnswer.{PurseAnswer}
-use Rattle.purse_run.specs.declared.PurseAnswer.TheVariants as run
+use Rattle.language.specs.Promises.{untouched}
+use Rattle.purse_model.specs.Journal.{purse_count, Entry, kind_number, kind_of, entry_of, read_back}
+use Rattle.purse_model.specs.Purses.{Work, credits, runs, charged, Said, refuses, credited, answers, refusal_number, answer_number, Outcome, Comes, Step, world, after, steps}
+use Rattle.answers.specs.Answers.{meant}
+use Rattle.purses.specs.Meant.{entry_said, pending_step, Makes}
+use Rattle.purse_run.specs.declared.RunBegun.{RunBegun}
 use Rattle.purse_run.specs.Meant.{Banked}
+use Rattle.mahrullis.specs.declared.calls.Pending.{Pending}
 use Rattle.mahrullis.specs.Reports.{report_entries, reported, no_room}
 
 abbrev pub pending_entries : ℕ
@@ -26,41 +24,18 @@ abbrev pub pending_words : Option Entry → (place numbers : ℕ) → List ℕ
 pending_words none place numbers = 0 ∷ 0 ∷ 0 ∷ 0 ∷ 0 ∷ []
 pending_words (some e) place numbers = kind_number e.kind ∷ place ∷ e.of ∷ e.amount ∷ numbers ∷ []
 
--- the words that the code puts down for an answer of its own
-abbrev pub credit_words : CreditAnswer → (place p amount : ℕ) → List ℕ
-credit_words a place p amount = pending_words (credit_outcome a p amount).writes place 0
+-- the words that the code puts down for what it has left to do, and what a run that has begun has left to do
+abbrev pub pending_left : rust.Option Pending → List ℕ
+pending_left None = pending_words none 0 0
+pending_left (Some w) = pending_words (some (entry_said w.entry)) w.place w.numbers
 
-abbrev pub charge_words : (place p : ℕ) → Report → List ℕ
-charge_words place p r = pending_words (charged p (meant r.answer) r.units) place r.numbers
-
-abbrev pub run_words : PurseAnswer → (place p : ℕ) → List ℕ
-run_words (run.Ran r) place p = charge_words place p r
-run_words run.Purse place p = pending_words none 0 0
-run_words run.Journal place p = pending_words none 0 0
-run_words run.Full place p = pending_words none 0 0
-
-abbrev pub credit_number : CreditAnswer → ℕ
-credit_number credit.Done = 0
-credit_number credit.Purse = refusal_number PURSE
-credit_number credit.Journal = refusal_number JOURNAL
-credit_number credit.Full = refusal_number FULL
-
-abbrev pub run_number : PurseAnswer → ℕ
-run_number (run.Ran r) = number_of (meant r.answer)
-run_number run.Purse = refusal_number PURSE
-run_number run.Journal = refusal_number JOURNAL
-run_number run.Full = refusal_number FULL
+abbrev pub run_left : RunBegun → (p : ℕ) → List ℕ
+run_left b p = pending_words (charged p (meant b.report.answer) b.report.units) b.place b.report.numbers
 
 abbrev pub refusal_report : ℕ → List ℕ  -- 34 to 36 have no places and no counts
 refusal_report n = n ∷ 0 ∷ 0 ∷ 0 ∷ 0 ∷ 0 ∷ 0 ∷ []
 
-abbrev pub run_report : PurseAnswer → List ℕ
-run_report (run.Ran r) = reported (said r)
-run_report run.Purse = refusal_report (refusal_number PURSE)
-run_report run.Journal = refusal_report (refusal_number JOURNAL)
-run_report run.Full = refusal_report (refusal_number FULL)
-
--- and those of an outcome
+-- what an outcome puts down
 abbrev pub pending_of : (journal : List ℕ) → Outcome → List ℕ
 pending_of J o = pending_words o.writes (read_back J).place (length o.gives)
 
@@ -124,6 +99,9 @@ module _ (pending : List ℕ) (k : ℕ) (held : List ℤ) (J : List ℕ) (bank :
     makes : (b : Bool) {J' : List ℕ} {bank' : List ℤ} → pending_entries ≤ length pending → Makes (word_step pending k held J bank) k J bank b J' bank' →
         StepInto (cond b 1 0) J' bank'
 
+abbrev pub told_whole : (purses report : List ℕ) → Bool  -- the tables of purses and of the report have their entries
+told_whole purses report = cond (leb purse_count (length purses)) (leb report_entries (length report)) false
+
 -- what a run from a purse answers, reports and leaves in RUN's tables
 module _ (J : List ℕ) (p : ℕ) (L : Limits) (W : Work) (purses report : List ℕ) where
   pub record RunsSo (o : Outcome) (r : ℕ) (tree' : List ℕ) (works' stores' : List (List ℕ)) (held' : List ℤ) (purses' report' : List ℕ) : Type 0 where
@@ -136,22 +114,19 @@ module _ (J : List ℕ) (p : ℕ) (L : Limits) (W : Work) (purses report : List 
     pub shown : purses' ≡ purses_shown J purses
     pub report_so : report' ≡ purse_report o.says ++ drop report_entries report
 
-  abbrev pub told_whole : Bool  -- the tables of purses and of the report have their entries
-  told_whole = cond (leb purse_count (length purses)) (leb report_entries (length report)) false
-
   pub data PurseRunBeginInto (pending : List ℕ) : (r : ℕ) (tree' : List ℕ) (works' stores' : List (List ℕ)) (held' : List ℤ) (purses' report' pending' : List ℕ) → Type 0 where
-    untold : cond told_whole (leb pending_entries (length pending)) false ≡ false →
+    untold : cond (told_whole purses report) (leb pending_entries (length pending)) false ≡ false →
         PurseRunBeginInto pending no_room W.tree (untouched W.works) (untouched W.stores) W.output purses report pending
     begins : {o : Outcome} {r : ℕ} {tree' : List ℕ} {works' stores' : List (List ℕ)} {held' : List ℤ} {purses' report' : List ℕ} →
-        cond told_whole (leb pending_entries (length pending)) false ≡ true → RunsSo o r tree' works' stores' held' purses' report' →
+        cond (told_whole purses report) (leb pending_entries (length pending)) false ≡ true → RunsSo o r tree' works' stores' held' purses' report' →
         PurseRunBeginInto pending r tree' works' stores' held' purses' report' (pending_of J o ++ drop pending_entries pending)
 
   -- the first n steps are made; the bank's table must have as many entries as that which holds the numbers back
   pub data PurseRunInto (n : ℕ) (bank : List ℤ) : (r : ℕ) (tree' : List ℕ) (works' stores' : List (List ℕ)) (held' : List ℤ) (purses' report' J' : List ℕ) (bank' : List ℤ) →
       Type 0 where
-    untold : cond told_whole (leb (length W.output) (length bank)) false ≡ false →
+    untold : cond (told_whole purses report) (leb (length W.output) (length bank)) false ≡ false →
         PurseRunInto n bank no_room W.tree (untouched W.works) (untouched W.stores) W.output purses report J bank
     runs_so : {o : Outcome} {r : ℕ} {tree' : List ℕ} {works' stores' : List (List ℕ)} {held' : List ℤ} {purses' report' : List ℕ} {bank' : List ℤ} →
-        cond told_whole (leb (length W.output) (length bank)) false ≡ true → RunsSo o r tree' works' stores' held' purses' report' →
+        cond (told_whole purses report) (leb (length W.output) (length bank)) false ≡ true → RunsSo o r tree' works' stores' held' purses' report' →
         Banked (after n (steps J o) (world J [])) bank bank' →
         PurseRunInto n bank r tree' works' stores' held' purses' report' (after n (steps J o) (world J [])).journal bank'

@@ -1,71 +1,64 @@
 // Purses as C functions: one step a call for a journal that a cut may tear, and all steps in one call for a journal in memory.
-ghost use Rattle.std.specs.Prelude.{◌≡◌, [], ◌∷◌, ◌++◌, ◌≤◌, length, drop};
+ghost use Rattle.std.specs.Prelude.{◌≡◌, [], ◌∷◌, ◌++◌, ◌≤◌, ◌<◌, length, drop};
 ghost use Rattle.gate.specs.Lent.{limits_of, working, stores};
-ghost use Rattle.purse_run.specs.declared.PurseAnswer.TheVariants.{Ran};
+ghost use Rattle.purse_model.specs.Journal.{purse_count};
+ghost use Rattle.purse_model.specs.Purses.{refusal_number};
+ghost use Rattle.purses.specs.Meant.{refusal_said};
 ghost use Rattle.purse_run.specs.Meant.{work};
 ghost use Rattle.mahrullis.specs.Reports.{report_entries};
-ghost use Rattle.mahrullis.specs.PurseReports.{pending_entries, credit_words, charge_words, run_words, credit_number, refusal_report, run_report, run_number};
+ghost use Rattle.mahrullis.specs.PurseReports.{pending_entries, pending_left, run_left, refusal_report, told_whole};
 ghost use Rattle.mahrullis.specs.PurseReports.{ShowInto, CreditInto, CreditBeginInto, StepInto, PurseRunBeginInto, PurseRunInto};
 
-use answers::{Report, made_of, number_of, place_of};
-use purse_run::{PurseAnswer, begin_run, is_refused, run_from_purse};
-use purses::{CreditAnswer, begin_credit, credit, read_back, step};
-use tables::{entry, put};
+use crate::{REPORT_ENTRIES, TABLE, put_first, put_report};
+use purse_run::{RunBegun, begin_run, is_refused, run_from_purse};
+use purses::{Entry, Kind, PurseRefusal, begin_credit, credit, read_back, step};
 
-// The answers besides RUN's; TABLE needs no report.
-const TABLE: u64 = 3;
-
+// The answers besides RUN's.
 const PURSE: u64 = 34;
 
 const JOURNAL: u64 = 35;
 
 const FULL: u64 = 36;
 
-// The entries of the tables lent for purses, for a report, and for what is pending.
+// The entries of the tables lent for purses and for what is pending.
 const PURSE_ENTRIES: usize = 64;
-
-const REPORT_ENTRIES: usize = 7;
 
 const PENDING_ENTRIES: usize = 5;
 
-// The kinds of a record.
-const CREDIT: u64 = 1;
-
-const CHARGE: u64 = 2;
-
-// What a call has left to do: its record's kind, place, purse and amount, and how many numbers are held. Kind 0 is nothing.
-fn put_pending(pending: &mut [u64], kind: u64, place: usize, p: u64, amount: u64, numbers: u64)
-    requires { pending_entries ≤ length pending.old }
-    ensures { pending.new ≡ (kind ∷ place ∷ p ∷ amount ∷ numbers ∷ []) ++ drop pending_entries pending.old }
+fn number_of_refusal(refusal: PurseRefusal) -> u64
+    ensures { result ≡ refusal_number (refusal_said refusal) }
 {
-    put(pending, 0, kind);
-    put(pending, 1, place as u64);
-    put(pending, 2, p);
-    put(pending, 3, amount);
-    put(pending, 4, numbers);
-}
-
-fn put_credit(pending: &mut [u64], answer: CreditAnswer, place: usize, p: u64, amount: u64)
-    requires { pending_entries ≤ length pending.old }
-    ensures { pending.new ≡ credit_words answer place p amount ++ drop pending_entries pending.old }
-{
-    match answer {
-        CreditAnswer::Done => put_pending(pending, CREDIT, place, p, amount, 0),
-        CreditAnswer::Purse => put_pending(pending, 0, 0, 0, 0, 0),
-        CreditAnswer::Journal => put_pending(pending, 0, 0, 0, 0, 0),
-        CreditAnswer::Full => put_pending(pending, 0, 0, 0, 0, 0),
+    match refusal {
+        PurseRefusal::Purse(_) => PURSE,
+        PurseRefusal::Journal(_) => JOURNAL,
+        PurseRefusal::Full(_) => FULL,
     }
 }
 
-fn number_of_credit(answer: CreditAnswer) -> u64
-    ensures { result ≡ credit_number answer }
+// What a call has left to do: its record's entry and place, and how many numbers are held.
+#[derive(Clone, Copy)]
+struct Pending {
+    entry: Entry,
+    place: usize,
+    numbers: u64,
+}
+
+// Puts down what a call has left to do. Kind 0 is nothing.
+fn put_pending(pending: &mut [u64], left: Option<Pending>)
+    requires { pending_entries ≤ length pending.old }
+    ensures { pending.new ≡ pending_left left ++ drop pending_entries pending.old }
 {
-    match answer {
-        CreditAnswer::Done => 0,
-        CreditAnswer::Purse => PURSE,
-        CreditAnswer::Journal => JOURNAL,
-        CreditAnswer::Full => FULL,
-    }
+    let words = match left {
+        Some(left) => [
+            left.entry.kind.number(),
+            left.place as u64,
+            left.entry.purse,
+            left.entry.amount,
+            left.numbers,
+        ],
+        None => [0, 0, 0, 0, 0],
+    };
+    put_first(pending, words);
 }
 
 // The purses that a journal is read back to: answers 0, or JOURNAL and those before the wrong record.
@@ -76,12 +69,10 @@ pub extern "C" fn mahrullis_purses(journal: &[u8], purses: &mut [u64]) -> u64
     if purses.len() < PURSE_ENTRIES {
         return TABLE;
     }
-    let end = PURSE_ENTRIES;
-    let back = read_back(journal, &mut purses[0..end]);
-    if back.sound {
-        return 0;
+    match read_back(journal, &mut purses[..PURSE_ENTRIES]) {
+        Ok(_) => 0,
+        Err(_) => JOURNAL,
     }
-    JOURNAL
 }
 
 // A credit, of whose steps the first n are made.
@@ -98,9 +89,10 @@ pub extern "C" fn mahrullis_credit(
     if purses.len() < PURSE_ENTRIES {
         return TABLE;
     }
-    let end = PURSE_ENTRIES;
-    let answer = credit(journal, &mut purses[0..end], p, amount, n);
-    number_of_credit(answer)
+    match credit(journal, &mut purses[..PURSE_ENTRIES], p, amount, n) {
+        Ok(()) => 0,
+        Err(refusal) => number_of_refusal(refusal),
+    }
 }
 
 // A credit up to its first step. The journal is only read.
@@ -114,17 +106,31 @@ pub extern "C" fn mahrullis_credit_begin(
 ) -> u64
     ensures { CreditBeginInto journal.now p amount purses.old pending.old result purses.new pending.new }
 {
-    if purses.len() < PURSE_ENTRIES {
+    if purses.len() < PURSE_ENTRIES || pending.len() < PENDING_ENTRIES {
         return TABLE;
     }
-    if pending.len() < PENDING_ENTRIES {
-        return TABLE;
+    match begin_credit(journal, &mut purses[..PURSE_ENTRIES], p, amount) {
+        Ok(place) => {
+            let entry = Entry {
+                kind: Kind::Credit,
+                purse: p,
+                amount,
+            };
+            put_pending(
+                pending,
+                Some(Pending {
+                    entry,
+                    place,
+                    numbers: 0,
+                }),
+            );
+            0
+        }
+        Err(refusal) => {
+            put_pending(pending, None);
+            number_of_refusal(refusal)
+        }
     }
-    let end = PURSE_ENTRIES;
-    let begun = begin_credit(journal, &mut purses[0..end], p, amount);
-    let answer = begun.answer;
-    put_credit(pending, answer, begun.place, p, amount);
-    number_of_credit(answer)
 }
 
 // Step k of the call that is pending: answers 1, or 0 and does nothing where there is none.
@@ -138,104 +144,58 @@ pub extern "C" fn mahrullis_purse_step(
 ) -> u64
     ensures { StepInto pending.now k held.now journal.old bank.old result journal.new bank.new }
 {
-    if pending.len() < PENDING_ENTRIES {
+    let &[kind, place, p, amount, numbers, ..] = pending else {
         return 0;
-    }
-    let kind = entry(pending, 0);
-    let place = entry(pending, 1) as usize;
-    let p = entry(pending, 2);
-    let amount = entry(pending, 3);
-    let numbers = entry(pending, 4) as usize;
-    if step(journal, place, kind, p, amount, held, numbers, bank, k) {
-        return 1;
-    }
-    0
-}
-
-fn put_charge(pending: &mut [u64], place: usize, p: u64, said: Report)
-    requires { pending_entries ≤ length pending.old }
-    ensures { pending.new ≡ charge_words place p said ++ drop pending_entries pending.old }
-{
-    let answer = said.answer;
-    if is_refused(answer) {
-        put_pending(pending, 0, 0, 0, 0, 0);
-        return;
-    }
-    put_pending(pending, CHARGE, place, p, said.units, said.numbers);
-}
-
-fn put_run(pending: &mut [u64], answer: PurseAnswer, place: usize, p: u64)
-    requires { pending_entries ≤ length pending.old }
-    ensures { pending.new ≡ run_words answer place p ++ drop pending_entries pending.old }
-{
-    match answer {
-        PurseAnswer::Ran(said) => put_charge(pending, place, p, said),
-        PurseAnswer::Purse => put_pending(pending, 0, 0, 0, 0, 0),
-        PurseAnswer::Journal => put_pending(pending, 0, 0, 0, 0, 0),
-        PurseAnswer::Full => put_pending(pending, 0, 0, 0, 0, 0),
-    }
-}
-
-// Puts seven numbers down.
-fn put_seven(
-    report: &mut [u64],
-    code: u64,
-    place: u64,
-    units: u64,
-    bindings: u64,
-    cells: u64,
-    numbers: u64,
-    made: u64,
-)
-    requires { report_entries ≤ length report.old }
-    ensures { report.new ≡ (code ∷ place ∷ units ∷ bindings ∷ cells ∷ numbers ∷ made ∷ []) ++ drop report_entries report.old }
-{
-    put(report, 0, code);
-    put(report, 1, place);
-    put(report, 2, units);
-    put(report, 3, bindings);
-    put(report, 4, cells);
-    put(report, 5, numbers);
-    put(report, 6, made);
-}
-
-fn put_said(report: &mut [u64], said: Report) -> u64
-    requires { report_entries ≤ length report.old }
-    ensures { (result ≡ run_number (Ran said)) × (report.new ≡ run_report (Ran said) ++ drop report_entries report.old) }
-{
-    let answer = said.answer;
-    let code = number_of(answer);
-    put_seven(
-        report,
-        code,
-        place_of(answer),
-        said.units,
-        said.bindings,
-        said.cells,
-        said.numbers,
-        made_of(answer),
+    };
+    let made = step(
+        journal,
+        place as usize,
+        kind,
+        p,
+        amount,
+        held,
+        numbers as usize,
+        bank,
+        k,
     );
-    code
+    u64::from(made)
 }
 
-fn put_refusal(report: &mut [u64], code: u64) -> u64
-    requires { report_entries ≤ length report.old }
-    ensures { (result ≡ code) × (report.new ≡ refusal_report code ++ drop report_entries report.old) }
+// What a run has left to do: nothing, where RUN refused it.
+fn left_of(begun: RunBegun, p: u64) -> Option<Pending>
+    requires { p < purse_count }
+    ensures { pending_left result ≡ run_left begun p }
 {
-    put_seven(report, code, 0, 0, 0, 0, 0, 0);
-    code
-}
-
-fn put_answer(report: &mut [u64], answer: PurseAnswer) -> u64
-    requires { report_entries ≤ length report.old }
-    ensures { (result ≡ run_number answer) × (report.new ≡ run_report answer ++ drop report_entries report.old) }
-{
-    match answer {
-        PurseAnswer::Ran(said) => put_said(report, said),
-        PurseAnswer::Purse => put_refusal(report, PURSE),
-        PurseAnswer::Journal => put_refusal(report, JOURNAL),
-        PurseAnswer::Full => put_refusal(report, FULL),
+    if is_refused(begun.report.answer) {
+        return None;
     }
+    let entry = Entry {
+        kind: Kind::Charge,
+        purse: p,
+        amount: begun.report.units,
+    };
+    Some(Pending {
+        entry,
+        place: begun.place,
+        numbers: begun.report.numbers,
+    })
+}
+
+// Puts a refusal's number down as a report: it has no places and no counts.
+fn put_refusal(report: &mut [u64], refusal: PurseRefusal) -> u64
+    requires { report_entries ≤ length report.old }
+    ensures { (result ≡ refusal_number (refusal_said refusal)) × (report.new ≡ refusal_report (refusal_number (refusal_said refusal)) ++ drop report_entries report.old) }
+{
+    let number = number_of_refusal(refusal);
+    put_first(report, [number, 0, 0, 0, 0, 0, 0]);
+    number
+}
+
+// Have the tables of purses and of the report their entries?
+fn told_whole(purses: &[u64], report: &[u64]) -> bool
+    ensures { result ≡ told_whole purses.now report.now }
+{
+    PURSE_ENTRIES <= purses.len() && REPORT_ENTRIES <= report.len()
 }
 
 // A run from a purse up to its first step: the text is run, its numbers are held back, and the journal is only read.
@@ -268,19 +228,13 @@ pub extern "C" fn mahrullis_purse_run_begin(
         result tree.new (words.new ∷ stack.new ∷ scopes.new ∷ notes.new ∷ waiting.new ∷ [])
         (bindings.new ∷ cells.new ∷ []) held.new purses.new report.new pending.new }
 {
-    if purses.len() < PURSE_ENTRIES {
-        return TABLE;
-    }
-    if report.len() < REPORT_ENTRIES {
-        return TABLE;
-    }
-    if pending.len() < PENDING_ENTRIES {
+    if !told_whole(purses, report) || pending.len() < PENDING_ENTRIES {
         return TABLE;
     }
     let end = PURSE_ENTRIES;
     let begun = begin_run(
         journal,
-        &mut purses[0..end],
+        &mut purses[..end],
         p,
         text,
         fuel,
@@ -298,9 +252,16 @@ pub extern "C" fn mahrullis_purse_run_begin(
         cells,
         held,
     );
-    let answer = begun.answer;
-    put_run(pending, answer, begun.place, p);
-    put_answer(report, answer)
+    match begun {
+        Ok(begun) => {
+            put_pending(pending, left_of(begun, p));
+            put_report(report, begun.report)
+        }
+        Err(refusal) => {
+            put_pending(pending, None);
+            put_refusal(report, refusal)
+        }
+    }
 }
 
 // A run from a purse, of whose steps the first n are made: its numbers are held back, and after the mark handed to `bank`.
@@ -334,19 +295,13 @@ pub extern "C" fn mahrullis_purse_run(
         result tree.new (words.new ∷ stack.new ∷ scopes.new ∷ notes.new ∷ waiting.new ∷ [])
         (bindings.new ∷ cells.new ∷ []) held.new purses.new report.new journal.new bank.new }
 {
-    if purses.len() < PURSE_ENTRIES {
-        return TABLE;
-    }
-    if report.len() < REPORT_ENTRIES {
-        return TABLE;
-    }
-    if bank.len() < held.len() {
+    if !told_whole(purses, report) || bank.len() < held.len() {
         return TABLE;
     }
     let end = PURSE_ENTRIES;
     let answer = run_from_purse(
         journal,
-        &mut purses[0..end],
+        &mut purses[..end],
         bank,
         p,
         n,
@@ -366,5 +321,8 @@ pub extern "C" fn mahrullis_purse_run(
         cells,
         held,
     );
-    put_answer(report, answer)
+    match answer {
+        Ok(said) => put_report(report, said),
+        Err(refusal) => put_refusal(report, refusal),
+    }
 }

@@ -7,13 +7,12 @@ mod calls; // calls.rt: purses and their journal
 
 ghost use Rattle.std.specs.Prelude.{◌≡◌, [], ◌∷◌, ◌++◌, ◌≤◌, min, length, drop};
 ghost use Rattle.verdict.specs.Answers.{lent};
-ghost use Rattle.answers.specs.Answers.{said as told-by};
+ghost use Rattle.answers.specs.Answers.{said as told};
 ghost use Rattle.gate.specs.Lent.{limits_of, working, stores};
 ghost use Rattle.mahrullis.specs.Reports.{report_entries, part_entries, Put, CheckInto, RunInto, NameInto};
 
-use answers::{Report, answer_to, made_of, number_of, place_of};
+use answers::{Report, answer_to, made_of, number_of, place_of, refused};
 use gate::run;
-use limits::less_of;
 use verdict::check;
 use words::name_at;
 
@@ -26,21 +25,30 @@ const REPORT_ENTRIES: usize = 7;
 // A part of a text: its offset and its length.
 const PART_ENTRIES: usize = 2;
 
+// Puts numbers into a table's first entries.
+fn put_first<const N: usize>(table: &mut [u64], numbers: [u64; N])
+    requires { N ≤ length table.old }
+    ensures { table.new ≡ numbers.entry ++ drop N table.old }
+{
+    table[..N].copy_from_slice(&numbers);
+}
+
 // Puts the report down, and answers its number.
 fn put_report(report: &mut [u64], said: Report) -> u64
     requires { report_entries ≤ length report.old }
-    ensures { Put (told-by said) report.old result report.new }
+    ensures { Put (told said) report.old result report.new }
 {
-    let answer = said.answer;
-    let code = number_of(answer);
-    report[0] = code;
-    report[1] = place_of(answer);
-    report[2] = said.units;
-    report[3] = said.bindings;
-    report[4] = said.cells;
-    report[5] = said.numbers;
-    report[6] = made_of(answer);
-    code
+    let numbers = [
+        number_of(said.answer),
+        place_of(said.answer),
+        said.units,
+        said.bindings,
+        said.cells,
+        said.numbers,
+        made_of(said.answer),
+    ];
+    put_first(report, numbers);
+    numbers[0]
 }
 
 // CHECK. A report table under seven entries is TABLE, and nothing is changed.
@@ -62,14 +70,7 @@ pub extern "C" fn mahrullis_check(
         return TABLE;
     }
     let verdict = check(text, tree, words, stack, scopes, notes);
-    let said = Report {
-        answer: answer_to(verdict),
-        units: 0,
-        bindings: 0,
-        cells: 0,
-        numbers: 0,
-    };
-    put_report(report, said)
+    put_report(report, refused(answer_to(verdict)))
 }
 
 // RUN. A report table under seven entries is TABLE, and nothing is changed.
@@ -131,7 +132,7 @@ pub extern "C" fn mahrullis_name(text: &[u8], at: usize, part: &mut [u64]) -> u6
         return TABLE;
     }
     let name = name_at(text, at);
-    part[0] = less_of(at, text.len()) as u64;
-    part[1] = name.len() as u64;
+    let offset = at.min(text.len());
+    put_first(part, [offset as u64, name.len() as u64]);
     0
 }

@@ -46,84 +46,48 @@ use Rattle.answers.specs.declared.Report.{Report}
 use Rattle.answers.specs.Answers.{meant}
 use Rattle.gate.specs.Lent.{limits_of, left}
 use Rattle.purse_model.specs.Journal.{purse_count, Purses, purse, charge, Entry, entry, record_bytes, bytes_of, Back, back, read_back}
-use Rattle.purse_model.specs.Purses.{
-  Work,
-  runs,
-  Outcome,
-  fuel_given,
-  given,
-  charged,
-  record_left,
-  Comes,
-  wrong_journal,
-  wrong_purse,
-  no_record,
-  run_made,
-  World,
-  world,
-  Step,
-  hand,
-  after,
-  writing,
-  steps,
-}
+use Rattle.purse_model.specs.Purses.{Work, fuel_given, given, charged, record_left, wrong_journal, wrong_purse, no_record, run_made, World, world, Step, hand, after, writing}
 use Rattle.purse_model.proofs.Outcomes.{given_less, given_more, differ}
 use Rattle.purses.specs.Meant.{Stepped}
 use Rattle.purses.proofs.Calls.{after_nil}
-use Rattle.purse_run.specs.Meant.{refused_answer, StepsMade, Charges, run_outcome, run_steps, RunReady, AsLent, Kept, RunBegins, PurseRun}
-use Rattle.purse_run.specs.declared.PurseAnswer.{PurseAnswer}
-use Rattle.purse_run.specs.declared.PurseAnswer.TheVariants as answer
+use Rattle.std.specs.Prelude.{◌&&◌, nat_le, Result, Ok, Err}
+use Rattle.purses.specs.declared.PurseRefusal.{PurseRefusal}
+use Rattle.purses.specs.declared.PurseRefusal.TheVariants as refusal
+use Rattle.purse_run.specs.Meant.{refused_answer, StepsMade, Charges, AsLent, RunBegins, PurseRun}
 use Rattle.purse_run.specs.declared.RunBegun.{RunBegun}
 
 -- ---- fuel
 
-pub gives_asked : (f h : ℕ) → f ≤ 1000000 → f ≤ h → f ≡ fuel_given f h
-gives_asked f h g l = let e : f ≡ min f h = omega arith in e ∙ sym (given_less f h g)
-
-pub gives_purse : (f h : ℕ) → f ≤ 1000000 → h < f → h ≡ fuel_given f h
-gives_purse f h g l = let e : h ≡ min f h = omega arith in e ∙ sym (given_less f h g)
+pub gives_lesser : (f h : ℕ) → f ≤ 1000000 → min f h ≡ fuel_given f h
+gives_lesser f h g = sym (given_less f h g)
 
 pub gives_beyond : (f h : ℕ) → 1000000 < f → f ≡ fuel_given f h
 gives_beyond f h g = sym (given_more f h g)
 
 -- ---- refusals by their numbers
 
-pub not_zero : (a : Answer) → number_of a ≡ 0 → false ≡ refused_answer a
-not_zero done e = refl
-not_zero (refused LENGTH q) e = absurd (omega (arith, e))
-not_zero (refused LIMIT q) e = absurd (omega (arith, e))
-not_zero (refused TABLE q) e = absurd (omega (arith, e))
-not_zero (refused BYTE q) e = absurd (omega (arith, e))
-not_zero (refused NUMBER q) e = absurd (omega (arith, e))
-not_zero (refused TOKENS q) e = absurd (omega (arith, e))
-not_zero (refused SYNTAX q) e = absurd (omega (arith, e))
-not_zero (refused LEVEL q) e = absurd (omega (arith, e))
-not_zero (refused TYPE q) e = absurd (omega (arith, e))
-not_zero (refused DOUBLE q) e = absurd (omega (arith, e))
-not_zero (stopped w q) e = refl
-
-pub up_to_last : (a : Answer) → (number_of a ≡ 0 → ⊥) → leb (number_of a) 10 ≡ refused_answer a
-up_to_last done e = absurd (e refl)
-up_to_last (refused LENGTH q) e = refl
-up_to_last (refused LIMIT q) e = refl
-up_to_last (refused TABLE q) e = refl
-up_to_last (refused BYTE q) e = refl
-up_to_last (refused NUMBER q) e = refl
-up_to_last (refused TOKENS q) e = refl
-up_to_last (refused SYNTAX q) e = refl
-up_to_last (refused LEVEL q) e = refl
-up_to_last (refused TYPE q) e = refl
-up_to_last (refused DOUBLE q) e = refl
-up_to_last (stopped (limit FUEL) q) e = refl
-up_to_last (stopped (limit DEPTH) q) e = refl
-up_to_last (stopped (limit CELLS) q) e = refl
-up_to_last (stopped (limit BINDINGS) q) e = refl
-up_to_last (stopped (limit OUTPUT) q) e = refl
-up_to_last (stopped (error RANGE) q) e = refl
-up_to_last (stopped (error ZERO) q) e = refl
-up_to_last (stopped (error (UNSET m)) q) e = refl
-up_to_last (stopped (error SIZE) q) e = refl
-up_to_last (stopped (error INDEX) q) e = refl
+pub refused_numbers : (a : Answer) → refused_answer a ≡ nat_le 1 (number_of a) && nat_le (number_of a) 10
+refused_numbers done = refl
+refused_numbers (refused LENGTH q) = refl
+refused_numbers (refused LIMIT q) = refl
+refused_numbers (refused TABLE q) = refl
+refused_numbers (refused BYTE q) = refl
+refused_numbers (refused NUMBER q) = refl
+refused_numbers (refused TOKENS q) = refl
+refused_numbers (refused SYNTAX q) = refl
+refused_numbers (refused LEVEL q) = refl
+refused_numbers (refused TYPE q) = refl
+refused_numbers (refused DOUBLE q) = refl
+refused_numbers (stopped (limit FUEL) q) = refl
+refused_numbers (stopped (limit DEPTH) q) = refl
+refused_numbers (stopped (limit CELLS) q) = refl
+refused_numbers (stopped (limit BINDINGS) q) = refl
+refused_numbers (stopped (limit OUTPUT) q) = refl
+refused_numbers (stopped (error RANGE) q) = refl
+refused_numbers (stopped (error ZERO) q) = refl
+refused_numbers (stopped (error (UNSET m)) q) = refl
+refused_numbers (stopped (error SIZE) q) = refl
+refused_numbers (stopped (error INDEX) q) = refl
 
 none_charged : (p u : ℕ) (a : Answer) → refused_answer a ≡ true → charged p a u ≡ none
 none_charged p u done e = differ e refl
@@ -150,7 +114,7 @@ module _ (n place p : ℕ) (r : Report) (held : List ℤ) (J : List ℕ) (bank :
       record { in_journal = ap (λ (v : World). v.journal) (sym w); in_bank = ([], ap (λ (v : World). v.bank) (sym w), refl) }
 
   pub charges_some : (J' : List ℕ) (bank' : List ℤ) → refused_answer (meant r.answer) ≡ false →
-      Stepped n (record_bytes * place) (bytes_of (entry charge p r.units)) r.numbers held J bank J' bank' → Charges n place p r held J bank J' bank'
+      Stepped n (record_bytes * place) (bytes_of (entry charge p r.units)) (take r.numbers held) J bank J' bank' → Charges n place p r held J bank J' bank'
   charges_some J' bank' e S =
       let f = sym (some_charged p r.units (meant r.answer) e) in
       record {
@@ -194,102 +158,76 @@ refused_puts_none {L} (ran {b} {a} h ad f v g) e = absurd (not_refused_end (run 
 
 -- ---- the call
 
-module _ (J : List ℕ) (p : ℕ) (L : Limits) (W : Work) (tree words stack scopes notes waiting bindings cells : List ℕ) (held : List ℤ)
-    (Q : Purses) (place : ℕ) (sound : Bool) (e : back Q place sound ≡ read_back J) where
-  sound_as : (read_back J).sound ≡ sound
-  sound_as = ap (λ (b : Back). b.sound) (sym e)
-
-  shown_as : Q ≡ (read_back J).purses
-  shown_as = ap (λ (b : Back). b.purses) e
-
-  place_as : place ≡ (read_back J).place
-  place_as = ap (λ (b : Back). b.place) e
-
-  room_at : (t : Bool) → record_left place J ≡ t → record_left (read_back J).place J ≡ t
-  room_at t f = ap (λ (k : ℕ). record_left k J) (sym place_as) ∙ f
-
-  abbrev Begins : PurseAnswer → Type 0
-  Begins r = RunBegins J p L W (record { answer = r; place = place }) tree words stack scopes notes waiting bindings cells held Q
+module _ (J : List ℕ) (p : ℕ) (L : Limits) (W : Work) (tree words stack scopes notes waiting bindings cells : List ℕ) (held : List ℤ) (Q : Purses) where
+  abbrev Begins : Result RunBegun PurseRefusal → Type 0
+  Begins r = RunBegins J p L W r tree words stack scopes notes waiting bindings cells held Q
 
   abbrev Same : Type 0
   Same = AsLent W tree words stack scopes notes waiting bindings cells held
 
-  begins : (r : PurseAnswer) → Comes J (runs p L W) (run_outcome r p (λ x. left x tree words stack scopes notes waiting bindings cells held)) → RunReady r place p J held →
-      Kept W r tree words stack scopes notes waiting bindings cells held → Begins r
-  begins r c y k = record { comes = c; at = place_as; ready = y; kept = k; shown = shown_as }
+  pub journal_refused : (place : ℕ) → back Q place false ≡ read_back J → Same → Begins (Err (refusal.Journal place))
+  journal_refused place e k =
+      record { comes = wrong_journal (ap (λ (b : Back). b.sound) (sym e)); ready = ap (λ (b : Back). b.place) e; kept = k; shown = ap (λ (b : Back). b.purses) e }
 
-  pub journal_refused : Same → sound ≡ false → Begins answer.Journal
-  journal_refused k f = begins answer.Journal (wrong_journal (sound_as ∙ f)) tt k
+  module _ (place : ℕ) (e : back Q place true ≡ read_back J) where
+    sound_as : (read_back J).sound ≡ true
+    sound_as = ap (λ (b : Back). b.sound) (sym e)
 
-  pub purse_refused : Same → sound ≡ true → purse_count ≤ p → Begins answer.Purse
-  purse_refused k f g = begins answer.Purse (wrong_purse (sound_as ∙ f) (le-ltb p purse_count g)) tt k
+    shown_as : Q ≡ (read_back J).purses
+    shown_as = ap (λ (b : Back). b.purses) e
 
-  pub full_refused : Same → sound ≡ true → p < purse_count → record_left place J ≡ false → Begins answer.Full
-  full_refused k f g h = begins answer.Full (no_record (sound_as ∙ f) (lt-ltb p purse_count g) (room_at false h)) tt k
+    place_as : place ≡ (read_back J).place
+    place_as = ap (λ (b : Back). b.place) e
 
-  pub ran_as : (r : Report) → length held ≡ length W.output → sound ≡ true → p < purse_count → record_left place J ≡ true →
-      (f holds : ℕ) → f ≡ fuel_given L.fuel holds → holds ≡ purse Q p →
-      Run (limits_of f L.depth L.bindings L.cells L.output) W.text W.tree W.works W.stores W.output
-      (left r tree words stack scopes notes waiting bindings cells held) → Begins (answer.Ran r)
-  ran_as r long s g h f holds x y R =
-      let z : f ≡ fuel_given L.fuel (purse (read_back J).purses p) =
-      x ∙ ap (λ (k : ℕ). fuel_given L.fuel k) (y ∙ ap (λ (P : Purses). purse P p) shown_as) in
-      let R' : Run (given L (purse (read_back J).purses p)) W.text W.tree W.works W.stores W.output (left r tree words stack scopes notes waiting bindings cells held) =
-      subst
-      (λ (k : ℕ).
-      Run (limits_of k L.depth L.bindings L.cells L.output) W.text W.tree W.works W.stores W.output
-      (left r tree words stack scopes notes waiting bindings cells held))
-      z R in
-      begins (answer.Ran r) (run_made (sound_as ∙ s) (lt-ltb p purse_count g) (room_at true h) R') (
-        g,
-        leb-true (record_bytes * suc place) (length J) h,
-        subst (λ (k : ℕ). r.numbers ≤ k) (sym long) (numbers_fit R),
-        λ q. refused_puts_none R q,
-      )
-      tt
+    room_at : (t : Bool) → record_left place J ≡ t → record_left (read_back J).place J ≡ t
+    room_at t f = ap (λ (k : ℕ). record_left k J) (sym place_as) ∙ f
 
--- ---- its steps
+    pub purse_refused : purse_count ≤ p → Same → Begins (Err (refusal.Purse place))
+    purse_refused g k = record { comes = wrong_purse sound_as (le-ltb p purse_count g); ready = place_as; kept = k; shown = shown_as }
 
-none_made : (n : ℕ) (ss : List Step) (J : List ℕ) (bank : List ℤ) → ss ≡ [] → StepsMade n ss J bank J bank
-none_made n ss J bank e =
-    let w : after n ss (world J []) ≡ world J [] = ap (λ (ts : List Step). after n ts (world J [])) e ∙ after_nil n (world J []) in
-    record { in_journal = ap (λ (v : World). v.journal) (sym w); in_bank = ([], ap (λ (v : World). v.bank) (sym w), refl) }
+    pub full_refused : p < purse_count → record_left place J ≡ false → Same → Begins (Err (refusal.Full place))
+    full_refused g h k = record { comes = no_record sound_as (lt-ltb p purse_count g) (room_at false h); ready = place_as; kept = k; shown = shown_as }
 
-module _ (n place p : ℕ) (held : List ℤ) (J : List ℕ) (bank : List ℤ) where
-  pub ready_ran : {a : PurseAnswer} (r : Report) → a ≡ answer.Ran r → RunReady a place p J held → length held ≤ length bank →
-      (p < purse_count) × (record_bytes * suc place ≤ length J) × (r.numbers ≤ length held) × (r.numbers ≤ length bank) ×
-      (refused_answer (meant r.answer) ≡ true → r.numbers ≡ 0)
-  ready_ran r e h l =
-      let q = subst (λ (x : PurseAnswer). RunReady x place p J held) e h in
-      (q.0, q.1, q.2, omega (arith, q.2, l), q.3)
-
-  pub made_ran : {a : PurseAnswer} (r : Report) → a ≡ answer.Ran r → (J' : List ℕ) (bank' : List ℤ) → Charges n place p r held J bank J' bank' → StepsMade n (run_steps a place p held) J bank J' bank'
-  made_ran r e J' bank' C = subst (λ (x : PurseAnswer). StepsMade n (run_steps x place p held) J bank J' bank') (sym e) C
-
-  pub made_none : {a : PurseAnswer} (b : PurseAnswer) → a ≡ b → run_steps b place p held ≡ [] → StepsMade n (run_steps a place p held) J bank J bank
-  made_none {a} b e f = none_made n (run_steps a place p held) J bank (ap (λ (x : PurseAnswer). run_steps x place p held) e ∙ f)
+    pub ran_as : (r : Report) → length held ≡ length W.output → p < purse_count → record_left place J ≡ true →
+        (f holds : ℕ) → f ≡ fuel_given L.fuel holds → holds ≡ purse Q p →
+        Run (limits_of f L.depth L.bindings L.cells L.output) W.text W.tree W.works W.stores W.output
+        (left r tree words stack scopes notes waiting bindings cells held) → Begins (Ok (record { report = r; place = place }))
+    ran_as r long g h f holds x y R =
+        let z : f ≡ fuel_given L.fuel (purse (read_back J).purses p) =
+        x ∙ ap (λ (k : ℕ). fuel_given L.fuel k) (y ∙ ap (λ (P : Purses). purse P p) shown_as) in
+        let R' : Run (given L (purse (read_back J).purses p)) W.text W.tree W.works W.stores W.output (left r tree words stack scopes notes waiting bindings cells held) =
+        subst
+        (λ (k : ℕ).
+        Run (limits_of k L.depth L.bindings L.cells L.output) W.text W.tree W.works W.stores W.output
+        (left r tree words stack scopes notes waiting bindings cells held))
+        z R in
+        record {
+          comes = run_made sound_as (lt-ltb p purse_count g) (room_at true h) R';
+          ready = (place_as, g, leb-true (record_bytes * suc place) (length J) h, subst (λ (k : ℕ). r.numbers ≤ k) (sym long) (numbers_fit R), λ q. refused_puts_none R q);
+          kept = tt;
+          shown = shown_as;
+        }
 
 -- ---- the whole call
 
-module _ (J : List ℕ) (p n : ℕ) (L : Limits) (W : Work) (bank : List ℤ) (r : RunBegun) (tree words stack scopes notes waiting bindings cells : List ℕ) (held : List ℤ)
-    (J' : List ℕ) (bank' : List ℤ) (Q : Purses) where
-  abbrev End : PurseAnswer → Outcome
-  End a = run_outcome a p (λ x. left x tree words stack scopes notes waiting bindings cells held)
-
-  steps_so : (a : PurseAnswer) (place : ℕ) → run_steps a place p held ≡ writing place (End a).writes ++ map hand (End a).gives
-  steps_so (answer.Ran x) place = refl
-  steps_so answer.Purse place = refl
-  steps_so answer.Journal place = refl
-  steps_so answer.Full place = refl
-
-  pub runs_as : RunBegins J p L W r tree words stack scopes notes waiting bindings cells held Q → StepsMade n (run_steps r.answer r.place p held) J bank J' bank' →
-      PurseRun J p n L W bank r.answer tree words stack scopes notes waiting bindings cells held J' bank' Q
-  runs_as B S =
-      let e : run_steps r.answer r.place p held ≡ steps J (End r.answer) =
-      steps_so r.answer r.place ∙ ap (λ (k : ℕ). writing k (End r.answer).writes ++ map hand (End r.answer).gives) B.at in
+module _ (J : List ℕ) (p n : ℕ) (L : Limits) (W : Work) (bank : List ℤ) (tree words stack scopes notes waiting bindings cells : List ℕ) (held : List ℤ) (Q : Purses) where
+  pub refused_as : (e : PurseRefusal) → RunBegins J p L W (Err e) tree words stack scopes notes waiting bindings cells held Q →
+      PurseRun J p n L W bank (Err e) tree words stack scopes notes waiting bindings cells held J bank Q
+  refused_as e B =
+      let w : after n [] (world J []) ≡ world J [] = after_nil n (world J []) in
       record {
         comes = B.comes;
-        made = subst (λ (ss : List Step). StepsMade n ss J bank J' bank') e S;
+        made = record { in_journal = ap (λ (v : World). v.journal) (sym w); in_bank = ([], ap (λ (v : World). v.bank) (sym w), refl) };
         kept = B.kept;
+        shown = B.shown;
+      }
+
+  pub runs_as : (b : RunBegun) (J' : List ℕ) (bank' : List ℤ) → RunBegins J p L W (Ok b) tree words stack scopes notes waiting bindings cells held Q →
+      Charges n b.place p b.report held J bank J' bank' → PurseRun J p n L W bank (Ok b.report) tree words stack scopes notes waiting bindings cells held J' bank' Q
+  runs_as b J' bank' B C =
+      record {
+        comes = B.comes;
+        made = subst (λ (k : ℕ). StepsMade n (steps_at k (charged p (meant b.report.answer) b.report.units) b.report.numbers held) J bank J' bank') B.ready.0 C;
+        kept = tt;
         shown = B.shown;
       }

@@ -1,5 +1,5 @@
 -- What a run from a purse comes to, and what it leaves.
-use Rattle.std.specs.Prelude.{◌≡◌, Bool, true, false, List, [], ◌∷◌, ◌++◌, map, ℕ, suc, ◌*◌, ◌≤◌, ◌<◌, ℤ, length, take, drop}
+use Rattle.std.specs.Prelude.{◌≡◌, Bool, true, false, List, [], ◌∷◌, ◌++◌, map, ℕ, suc, ◌*◌, ◌≤◌, ◌<◌, ℤ, length, take, drop, Result, Ok, Err, MatchResult}
 use Rattle.language.specs.Answers.{Answer, done, refused, stopped}
 use Rattle.language.specs.Limits.{Limits}
 use Rattle.language.specs.Promises.{Lent, untouched, Ran}
@@ -7,9 +7,9 @@ use Rattle.answers.specs.declared.Report.{Report}
 use Rattle.answers.specs.Answers.{meant}
 use Rattle.gate.specs.Lent.{left}
 use Rattle.purse_model.specs.Journal.{purse_count, Purses, record_bytes, read_back}
-use Rattle.purse_model.specs.Purses.{Work, runs, PURSE, JOURNAL, FULL, Outcome, refusal, charged, of_run, Comes, World, world, Step, hand, after, writing, steps}
-use Rattle.purse_run.specs.declared.PurseAnswer.{PurseAnswer}
-use Rattle.purse_run.specs.declared.PurseAnswer.TheVariants as answer
+use Rattle.purse_model.specs.Purses.{Work, runs, Outcome, refusal, charged, of_run, Comes, World, world, Step, hand, after, writing, steps}
+use Rattle.purses.specs.declared.PurseRefusal.{PurseRefusal}
+use Rattle.purses.specs.Meant.{refusal_said, refusal_place}
 use Rattle.purse_run.specs.declared.RunBegun.{RunBegun}
 
 abbrev pub refused_answer : Answer → Bool
@@ -37,26 +37,20 @@ abbrev pub work : List ℕ → List ℕ → List Lent → List Lent → List ℤ
 work text tree works stores output = record { text = text; tree = tree; works = works; stores = stores; output = output }
 
 -- what a call that was answered so comes to
-abbrev pub run_outcome : PurseAnswer → (p : ℕ) → (Report → Ran) → Outcome
-run_outcome (answer.Ran r) p ran = of_run p (ran r)
-run_outcome answer.Purse p ran = refusal PURSE
-run_outcome answer.Journal p ran = refusal JOURNAL
-run_outcome answer.Full p ran = refusal FULL
+abbrev pub run_outcome : Result Report PurseRefusal → (p : ℕ) → (Report → Ran) → Outcome
+run_outcome (Ok r) p ran = of_run p (ran r)
+run_outcome (Err e) p ran = refusal (refusal_said e)
 
--- its steps, where its record has this place
-abbrev pub run_steps : PurseAnswer → (place p : ℕ) → (held : List ℤ) → List Step
-run_steps (answer.Ran r) place p held = report_steps place p r held
-run_steps answer.Purse place p held = []
-run_steps answer.Journal place p held = []
-run_steps answer.Full place p held = []
+-- what RUN reports, of a run that has begun
+abbrev pub report_of : Result RunBegun PurseRefusal → Result Report PurseRefusal
+report_of (Ok b) = Ok b.report
+report_of (Err e) = Err e
 
 -- a run is of a purse, a whole record is left at its place, and its numbers are held
-abbrev pub RunReady : PurseAnswer → (place p : ℕ) → (journal : List ℕ) → (held : List ℤ) → Type 0
-RunReady (answer.Ran r) place p J held =
-    (p < purse_count) × (record_bytes * suc place ≤ length J) × (r.numbers ≤ length held) × (refused_answer (meant r.answer) ≡ true → r.numbers ≡ 0)
-RunReady answer.Purse place p J held = Unit {0}
-RunReady answer.Journal place p J held = Unit {0}
-RunReady answer.Full place p J held = Unit {0}
+abbrev pub RunReady : (journal : List ℕ) → (p : ℕ) → (held : List ℤ) → RunBegun → Type 0
+RunReady J p held b =
+    (b.place ≡ (read_back J).place) × (p < purse_count) × (record_bytes * suc b.place ≤ length J) × (b.report.numbers ≤ length held) ×
+    (refused_answer (meant b.report.answer) ≡ true → b.report.numbers ≡ 0)
 
 -- RUN's tables are as they were lent
 pub record AsLent (W : Work) (tree words stack scopes notes waiting bindings cells : List ℕ) (held : List ℤ) : Type 0 where
@@ -66,23 +60,20 @@ pub record AsLent (W : Work) (tree words stack scopes notes waiting bindings cel
   pub held_same : held ≡ W.output
 
 -- 34 to 36 leave RUN's tables as they were lent; else they are what RUN leaves
-abbrev pub Kept : (W : Work) → PurseAnswer → (tree words stack scopes notes waiting bindings cells : List ℕ) → (held : List ℤ) → Type 0
-Kept W (answer.Ran r) tree words stack scopes notes waiting bindings cells held = Unit {0}
-Kept W answer.Purse tree words stack scopes notes waiting bindings cells held = AsLent W tree words stack scopes notes waiting bindings cells held
-Kept W answer.Journal tree words stack scopes notes waiting bindings cells held = AsLent W tree words stack scopes notes waiting bindings cells held
-Kept W answer.Full tree words stack scopes notes waiting bindings cells held = AsLent W tree words stack scopes notes waiting bindings cells held
+abbrev pub Kept : (W : Work) → Result Report PurseRefusal → (tree words stack scopes notes waiting bindings cells : List ℕ) → (held : List ℤ) → Type 0
+Kept W (Ok r) tree words stack scopes notes waiting bindings cells held = Unit {0}
+Kept W (Err e) tree words stack scopes notes waiting bindings cells held = AsLent W tree words stack scopes notes waiting bindings cells held
 
--- what a run from a purse comes to before its first step, and the place of its record
-module _ (J : List ℕ) (p : ℕ) (L : Limits) (W : Work) (r : RunBegun) (tree words stack scopes notes waiting bindings cells : List ℕ) (held : List ℤ) (purses' : Purses) where
+-- what a run from a purse comes to before its first step, and the place of its record; where it is refused, the place up to which the journal was read back
+module _ (J : List ℕ) (p : ℕ) (L : Limits) (W : Work) (r : Result RunBegun PurseRefusal) (tree words stack scopes notes waiting bindings cells : List ℕ) (held : List ℤ) (purses' : Purses) where
   pub record RunBegins : Type 0 where
-    pub comes : Comes J (runs p L W) (run_outcome r.answer p (λ x. left x tree words stack scopes notes waiting bindings cells held))
-    pub at : r.place ≡ (read_back J).place
-    pub ready : RunReady r.answer r.place p J held
-    pub kept : Kept W r.answer tree words stack scopes notes waiting bindings cells held
+    pub comes : Comes J (runs p L W) (run_outcome (report_of r) p (λ x. left x tree words stack scopes notes waiting bindings cells held))
+    pub ready : MatchResult r (RunReady J p held) (λ e. refusal_place e ≡ (read_back J).place)
+    pub kept : Kept W (report_of r) tree words stack scopes notes waiting bindings cells held
     pub shown : purses' ≡ (read_back J).purses
 
 -- what it comes to, with the first n of its steps made
-module _ (J : List ℕ) (p n : ℕ) (L : Limits) (W : Work) (bank : List ℤ) (r : PurseAnswer) (tree words stack scopes notes waiting bindings cells : List ℕ) (held : List ℤ)
+module _ (J : List ℕ) (p n : ℕ) (L : Limits) (W : Work) (bank : List ℤ) (r : Result Report PurseRefusal) (tree words stack scopes notes waiting bindings cells : List ℕ) (held : List ℤ)
     (J' : List ℕ) (bank' : List ℤ) (purses' : Purses) where
   abbrev pub ended : Outcome
   ended = run_outcome r p (λ x. left x tree words stack scopes notes waiting bindings cells held)

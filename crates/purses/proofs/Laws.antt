@@ -8,93 +8,20 @@ use native.Mathlib.Nat.{not-suc-le-zero, le_of_suc-le-suc}
 use native.Mathlib.Omega.{arith}
 use native.Mathlib.Numerals.{add-one}
 use lib.Dec.{eqb, leb}
-use lib.ListN.{length, get_or, set, take, drop, replicate, length-set, length-drop}
+use lib.ListN.{length, get_or, set, take, drop, length-set, length-drop}
 use lib.Seq.{take_all, drop-drop}
-use borrow.Author.Tests.{leb-true, leb-false, le-leb, lt-leb, lt-ltb, le-ltb, eq-eqb, ne_eqb}
-use Rattle.purse_model.specs.Journal.{
-  purse_count,
-  top,
-  Purses,
-  empty,
-  purse,
-  Kind,
-  credit,
-  charge,
-  entry,
-  changed,
-  mark,
-  record_bytes,
-  kind_of,
-  entry_of,
-  entry_in,
-  moved_by,
-  back,
-  read_record,
-  read_on,
-  read_back,
-}
+use borrow.Author.Tests.{leb-true, leb-false, eq-eqb, ne_eqb}
+use Rattle.purse_model.specs.Journal.{purse_count, Purses, Kind, entry, mark, record_bytes, kind_of, entry_of, entry_in, moved_by, back, read_record, read_on, read_back}
 use Rattle.purse_model.specs.Purses.{World, world, Step, store, made, after, stores_from}
 use Rattle.purse_model.proofs.Standing.{read_few}
-use Rattle.limits.specs.Cleared.{zeroed}
 use Rattle.purses.specs.Meant.{Entered, ReadsAs}
-use Rattle.purses.specs.declared.Met.{Met}
-
--- ---- entries
-
-pub not_entered : {m : Option Purses} (P : Purses) → m ≡ none → Entered m P false P
-not_entered {m} P e = subst (λ (o : Option Purses). Entered o P false P) (sym e) (refl, refl)
-
-pub is_entered : {m : Option Purses} (P R Q : Purses) → m ≡ some R → Q ≡ R → Entered m P true Q
-is_entered {m} P R Q e f = subst (λ (o : Option Purses). Entered o P true Q) (sym e) (refl, f)
+use Rattle.std.specs.Prelude.{Some, is_err, Result, Ok, Err}
+use Rattle.std.specs.Prelude as rust
+use Rattle.purses.specs.declared.entries.NoEntry.{NoEntry}
 
 -- what an answer tells
 pub differ : {A : Type 0} {t : Bool} → t ≡ true → t ≡ false → A
 differ e f = let z : ◌≡◌ {A = ℕ} 0 1 = ap (elim [ true ↦ 0 | false ↦ 1 ]) (sym e ∙ f) in absurd (omega arith)
-
-pub entered_true : (m : Option Purses) (P Q : Purses) {r : Bool} → Entered m P r Q → r ≡ true → m ≡ some Q
-entered_true none P Q h e = differ e h.0
-entered_true (some R) P Q h e = ap some (sym h.1)
-
-pub entered_false : (m : Option Purses) (P Q : Purses) {r : Bool} → Entered m P r Q → r ≡ false → (m ≡ none) × (Q ≡ P)
-entered_false none P Q h e = (refl, h.1)
-entered_false (some R) P Q h e = differ h.0 e
-
-module _ (P : Purses) (K p a : ℕ) where
-  by_kind : (k : Option Kind) → kind_of K ≡ k → moved_by P (entry_of (kind_of K) p a 0) ≡ moved_by P (entry_of k p a 0)
-  by_kind k e = ap (λ (o : Option Kind). moved_by P (entry_of o p a 0)) e
-
-  pub high : purse_count ≤ p → moved_by P (entry_of (kind_of K) p a 0) ≡ none
-  high h = by (kind_of K) refl
-    where
-      by : (k : Option Kind) → kind_of K ≡ k → moved_by P (entry_of (kind_of K) p a 0) ≡ none
-      by none e = by_kind none e
-      by (some k) e = by_kind (some k) e ∙ ap (λ (t : Bool). cond t (changed P k p a) none) (le-ltb p purse_count h)
-
-  low : (k : Kind) → kind_of K ≡ some k → p < purse_count → moved_by P (entry_of (kind_of K) p a 0) ≡ changed P k p a
-  low k e h = by_kind (some k) e ∙ ap (λ (t : Bool). cond t (changed P k p a) none) (lt-ltb p purse_count h)
-
-  one : K ≡ 1 → kind_of K ≡ some credit
-  one e = ap kind_of e
-
-  two : K ≡ 2 → kind_of K ≡ some charge
-  two e = ap kind_of e
-
-  pub past : K ≡ 1 → p < purse_count → leb (purse P p + a) top ≡ false → moved_by P (entry_of (kind_of K) p a 0) ≡ none
-  past e h f = low credit (one e) h ∙ ap (λ (t : Bool). cond t (some (set P p (purse P p + a))) none) f
-
-  pub credited : K ≡ 1 → p < purse_count → leb (purse P p + a) top ≡ true → moved_by P (entry_of (kind_of K) p a 0) ≡ some (set P p (purse P p + a))
-  credited e h f = low credit (one e) h ∙ ap (λ (t : Bool). cond t (some (set P p (purse P p + a))) none) f
-
-  pub beyond : K ≡ 2 → p < purse_count → purse P p < a → moved_by P (entry_of (kind_of K) p a 0) ≡ none
-  beyond e h f = low charge (two e) h ∙ ap (λ (t : Bool). cond t (some (set P p (purse P p - a))) none) (lt-leb a (purse P p) f)
-
-  pub charged : K ≡ 2 → p < purse_count → a ≤ purse P p → moved_by P (entry_of (kind_of K) p a 0) ≡ some (set P p (purse P p - a))
-  charged e h f = low charge (two e) h ∙ ap (λ (t : Bool). cond t (some (set P p (purse P p - a))) none) (le-leb a (purse P p) f)
-
-  pub other : (K ≡ 1 → ⊥) → (K ≡ 2 → ⊥) → moved_by P (entry_of (kind_of K) p a 0) ≡ none
-  other e f =
-      let g : kind_of K ≡ none = simp (ne_eqb K 1 e, ne_eqb K 2 f) in
-      by_kind none g
 
 -- ---- the first record of some bytes
 
@@ -150,24 +77,37 @@ module _ (P : Purses) (l : List ℕ) (h : record_bytes ≤ length l) where
       (zeros_none (kind_of (get_or l 0 0 / 16)) (get_or l 0 0 % 16 * 256 + get_or l 1 0) (((get_or l 2 0 * 256 + get_or l 3 0) * 256 + get_or l 4 0) * 256 + get_or l 5 0)
       (get_or l 6 0) f)
 
--- the fields of a record, as the code computes them
-module _ (P : Purses) (l : List ℕ) (K p a : ℕ) where
-  pub fields : get_or l 6 0 ≡ 0 → K ≡ get_or l 0 0 / 16 → p ≡ get_or l 0 0 % 16 * 256 + get_or l 1 0 →
-      a ≡ (get_or l 2 0 * 256 + get_or l 3 0) * 65536 + (get_or l 4 0 * 256 + get_or l 5 0) → moved_in P l ≡ moved_by P (entry_of (kind_of K) p a 0)
-  fields e f g h =
-      let a' : ((get_or l 2 0 * 256 + get_or l 3 0) * 256 + get_or l 4 0) * 256 + get_or l 5 0 ≡ a = omega (arith, h) in
-      same (get_or l 0 0 / 16) K (get_or l 0 0 % 16 * 256 + get_or l 1 0) p _ a (get_or l 6 0) 0 (sym f) (sym g) a' e
+-- the record that some bytes begin with, entered as the code reads its fields
+module _ (P : Purses) (l : List ℕ) (h : record_bytes ≤ length l) (marked : get_or l 7 0 ≡ mark) where
+  entered : (m : Option Purses) → moved_in P l ≡ m → (r : Result (Unit {0}) NoEntry) (Q : Purses) → Entered m P r Q → ReadsAs (Some r) P l Q
+  entered none e r Q (f, g) =
+      subst (λ (s : Result (Unit {0}) NoEntry). ReadsAs (Some s) P l Q) (sym f) λ n. wrong_mark P l h marked e n ∙ ap (λ (R : Purses). back R n false) (sym g)
+  entered (some R) e r Q (f, g) =
+      subst (λ (s : Result (Unit {0}) NoEntry). ReadsAs (Some s) P l Q) (sym f) λ n. good_mark P l h marked R e n ∙ ap (λ (S : Purses). read_on S (suc n) (drop record_bytes l)) (sym g)
+
+  pub reads_entered : get_or l 6 0 ≡ 0 → get_or l 1 0 < 256 → (K p a : ℕ) → K ≡ (get_or l 0 0 * 256 + get_or l 1 0) / 4096 → p ≡ (get_or l 0 0 * 256 + get_or l 1 0) % 4096 →
+      a ≡ ((get_or l 2 0 * 256 + get_or l 3 0) * 256 + get_or l 4 0) * 256 + get_or l 5 0 →
+      (r : Result (Unit {0}) NoEntry) (Q : Purses) → Entered (moved_by P (entry_of (kind_of K) p a 0)) P r Q → ReadsAs (Some r) P l Q
+  reads_entered z below K p a k₁ p₁ a₁ r Q =
+      let k₂ : get_or l 0 0 / 16 ≡ K = omega (arith, k₁, below) in
+      let p₂ : get_or l 0 0 % 16 * 256 + get_or l 1 0 ≡ p = omega (arith, p₁, below) in
+      entered (moved_by P (entry_of (kind_of K) p a 0)) (same (get_or l 0 0 / 16) K (get_or l 0 0 % 16 * 256 + get_or l 1 0) p _ a (get_or l 6 0) 0 k₂ p₂ (sym a₁) z) r Q
     where
       same : (K K' p p' a a' z z' : ℕ) → K ≡ K' → p ≡ p' → a ≡ a' → z ≡ z' → moved_by P (entry_of (kind_of K) p a z) ≡ moved_by P (entry_of (kind_of K') p' a' z')
       same K K' p p' a a' z z' e₁ e₂ e₃ e₄ = cc
+
+-- a record that was entered is read on behind
+pub entered_on : (P : Purses) (l : List ℕ) (Q : Purses) (r : Result (Unit {0}) NoEntry) → is_err r ≡ false → ReadsAs (Some r) P l Q →
+    (n : ℕ) → read_on P n l ≡ read_on Q (suc n) (drop record_bytes l)
+entered_on P l Q (Ok _) e h = h
+entered_on P l Q (Err _) e h = differ refl e
 
 -- the part of a journal from a place on, and what its first record was met as
 pub part_is : (J : List ℕ) (i : ℕ) → take (length J - i) (drop i J) ≡ drop i J
 part_is J i = take_all (length J - i) (drop i J) (omega (arith, length-drop i J))
 
-pub told : {r : Met} (r' : Met) (P : Purses) (J : List ℕ) (i : ℕ) (Q : Purses) → r ≡ r' → ReadsAs r P (take (length J - i) (drop i J)) Q → ReadsAs r' P (drop i J) Q
-told {r} r' P J i Q e h =
-    subst (λ (s : Met). ReadsAs s P (drop i J) Q) e (subst (λ (l : List ℕ). ReadsAs r P l Q) (part_is J i) h)
+pub told : (r : rust.Option (Result (Unit {0}) NoEntry)) (P : Purses) (J : List ℕ) (i : ℕ) (Q : Purses) → ReadsAs r P (take (length J - i) (drop i J)) Q → ReadsAs r P (drop i J) Q
+told r P J i Q h = subst (λ (l : List ℕ). ReadsAs r P l Q) (part_is J i) h
 
 -- ---- the loop of reading back: after `place` records the purses are P, and the rest of the journal is still to be read
 
@@ -176,17 +116,6 @@ pub record Reading (J : List ℕ) (end : ℕ) (P : Purses) (place : ℕ) : Type 
   pub within : place ≤ end
   pub many : length P ≡ purse_count
   pub goes : read_back J ≡ read_on P place (drop (place * 8) J)
-
-cleared_all : (n : ℕ) (l : List ℕ) → length l ≡ n → zeroed 0 n l ≡ replicate n 0
-cleared_all zero [] e = refl
-cleared_all zero (x ∷ l) e = absurd (omega arith)
-cleared_all (suc n) [] e = absurd (omega arith)
-cleared_all (suc n) (x ∷ l) e = ap (λ (t : List ℕ). 0 ∷ t) (cleared_all n l (omega arith))
-
-pub reading_first : (J : List ℕ) (end : ℕ) (P Q : Purses) → end ≡ length J / 8 → length P ≡ purse_count → Q ≡ zeroed 0 64 P → Reading J end Q 0
-reading_first J end P Q e f g =
-    let h : Q ≡ empty = g ∙ cleared_all 64 P f in
-    record { stops = e; within = omega arith; many = ap length h; goes = ap (λ (R : Purses). read_on R 0 J) (sym h) }
 
 module _ (J : List ℕ) (end : ℕ) (P : Purses) (place : ℕ) (R : Reading J end P place) where
   pub record_here : place < end → record_bytes ≤ length (drop (place * 8) J)
@@ -204,8 +133,10 @@ module _ (J : List ℕ) (end : ℕ) (P : Purses) (place : ℕ) (R : Reading J en
             ap (λ (k : ℕ). read_on Q k (drop ((place + 1) * 8) J)) (sym (add-one place));
       }
 
-  pub reading_done : end ≤ place → back P place true ≡ read_back J
-  reading_done h = sym (R.goes ∙ read_few P place (drop (place * 8) J) (omega (arith, length-drop (place * 8) J, R.stops, R.within)))
+  pub reading_done : end ≤ place → back P end true ≡ read_back J
+  reading_done h =
+      let e : end ≡ place = omega (arith, R.within) in
+      ap (λ (k : ℕ). back P k true) e ∙ sym (R.goes ∙ read_few P place (drop (place * 8) J) (omega (arith, length-drop (place * 8) J, R.stops, R.within)))
 
 -- ---- one store after the other
 
@@ -267,24 +198,3 @@ module _ (j : List ℕ) (place : ℕ) (bs : List ℕ) (n end : ℕ) where
             (after_all k n (stores_from (record_bytes * place) bs) (world j [])
             (omega (arith, leb-false n 8 e, S.stops, S.within, length_stores bs (record_bytes * place)))
             (omega (arith, leb-false n 8 e, length_stores bs (record_bytes * place))))
-
--- ---- room in a purse
-
-pub room_same : (h a : ℕ) → h ≤ top → leb a (top - h) ≡ leb (h + a) top
-room_same h a g = by (leb a (top - h)) refl
-  where
-    by : (t : Bool) → leb a (top - h) ≡ t → leb a (top - h) ≡ leb (h + a) top
-    by true e = e ∙ sym (le-leb (h + a) top (omega (arith, leb-true a (top - h) e)))
-    by false e = e ∙ sym (lt-leb (h + a) top (omega (arith, leb-false a (top - h) e)))
-
--- the last byte of a record is its eighth
-pub last_place : (k : ℕ) → k < 8 → (k ≡ 0 → ⊥) → (k ≡ 1 → ⊥) → (k ≡ 2 → ⊥) → (k ≡ 3 → ⊥) → (k ≡ 4 → ⊥) → (k ≡ 5 → ⊥) → (k ≡ 6 → ⊥) → k ≡ 7
-last_place zero h e₀ e₁ e₂ e₃ e₄ e₅ e₆ = absurd (e₀ refl)
-last_place (suc zero) h e₀ e₁ e₂ e₃ e₄ e₅ e₆ = absurd (e₁ refl)
-last_place (suc (suc zero)) h e₀ e₁ e₂ e₃ e₄ e₅ e₆ = absurd (e₂ refl)
-last_place (suc (suc (suc zero))) h e₀ e₁ e₂ e₃ e₄ e₅ e₆ = absurd (e₃ refl)
-last_place (suc (suc (suc (suc zero)))) h e₀ e₁ e₂ e₃ e₄ e₅ e₆ = absurd (e₄ refl)
-last_place (suc (suc (suc (suc (suc zero))))) h e₀ e₁ e₂ e₃ e₄ e₅ e₆ = absurd (e₅ refl)
-last_place (suc (suc (suc (suc (suc (suc zero)))))) h e₀ e₁ e₂ e₃ e₄ e₅ e₆ = absurd (e₆ refl)
-last_place (suc (suc (suc (suc (suc (suc (suc zero))))))) h e₀ e₁ e₂ e₃ e₄ e₅ e₆ = refl
-last_place (suc (suc (suc (suc (suc (suc (suc (suc k)))))))) h e₀ e₁ e₂ e₃ e₄ e₅ e₆ = absurd (omega (arith, h))

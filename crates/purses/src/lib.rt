@@ -2,246 +2,161 @@
 
 #![tactic(auto)]
 
-ghost use Rattle.std.specs.Prelude.{◌≡◌, [], ◌+◌, ◌*◌, ◌≤◌, ◌<◌, suc, leb, length, get_or, set};
-ghost use Rattle.purse_model.specs.Journal.{top, purse_count, record_bytes, kind_of, entry_of, moved_by, bytes_of, read_back};
+mod entries; // entries.rt: what a record says, and its bytes
+
+ghost use Rattle.std.specs.Prelude.{◌≡◌, [], ◌++◌, ◌+◌, ◌*◌, ◌≤◌, ◌<◌, suc, length, get_or, set, drop};
+ghost use Rattle.purse_model.specs.Journal.{purse_count, record_bytes, kind_of, moved, entry_of, moved_by, bytes_of, read_back};
 ghost use Rattle.purse_model.specs.Purses.{world, after, stores_from};
-ghost use Rattle.purse_model.specs.Purses.{credits, is_some, record_left, purse_admits};
-ghost use Rattle.purses.specs.Meant.{Entered, ReadsAs, came_back, said, onto, Stepped, credit_outcome, steps_at, CreditReady, CreditBegins, CreditComes};
+ghost use Rattle.purse_model.specs.Purses.{credits, record_left};
+ghost use Rattle.purses.specs.Meant.{said, entry_said, Numbered, Holds, Entered, ReadsAs, came_back, Stepped, CreditBegins, CreditComes};
 ghost use Rattle.purses.specs.Meant.{nth, entry_steps, lent_for, pending_step, Makes};
 
-use limits::{clear_words, less_of};
-use tables::{entry, put};
+pub use entries::{Entry, Kind, NoEntry, RECORD_BYTES};
+use entries::{MARK, PURSE_NUMBERS};
+use tables::put;
 
 pub const PURSES: u64 = 64;
 
 pub const TOP: u64 = 4_294_967_295;
 
-pub const RECORD_BYTES: usize = 8;
-
-const MARK: u8 = 0xA5;
-
-// What a record is: 1 and 2 in the journal.
-#[derive(Clone, Copy)]
-pub enum Kind {
-    Credit,
-    Charge,
-}
-
-// What reading a record came to: it has no mark, it is wrong, or its entry was made.
-#[derive(Clone, Copy)]
-pub enum Met {
-    NoMark,
-    Wrong,
-    Made,
-}
-
-// What reading back gives besides the purses: how many records were read, and whether none was wrong.
-#[derive(Clone, Copy)]
-pub struct Back {
+// The place of a record that has its mark and is wrong.
+#[derive(Clone, Copy, Debug, PartialEq, Eq)]
+pub struct WrongRecord {
     pub place: usize,
-    pub sound: bool,
 }
 
-// A purse that holds so much may get so much more.
-fn fits(held: u64, amount: u64) -> bool
-    ensures { result ≡ leb (held + amount) top }
-{
-    if TOP < held {
-        return false;
+// Why a call on a purse is refused, 34 to 36, with the place up to which the journal was read back.
+#[derive(Clone, Copy, Debug, PartialEq, Eq)]
+pub enum PurseRefusal {
+    Purse(usize),
+    Journal(usize),
+    Full(usize),
+}
+
+impl From<WrongRecord> for PurseRefusal {
+    ghost use Rattle.purses.specs.declared.PurseRefusal.TheVariants.{Journal};
+
+    ghost from_gives = { λ wrong refusal. refusal ≡ Journal wrong.place };
+
+    fn from(wrong: WrongRecord) -> PurseRefusal {
+        PurseRefusal::Journal(wrong.place)
     }
-    amount <= TOP - held
 }
 
-// Makes an entry, or answers false where it is none: another kind, a purse over 63, a credit past the top, a charge beyond its purse.
-pub fn enter(purses: &mut [u64], kind: u64, p: u64, amount: u64) -> bool
-    ensures { Entered (moved_by purses.old (entry_of (kind_of kind) p amount 0)) purses.old result purses.new }
+// What a purse holds after an entry; none where the purse is over 63, a credit goes past the top, or a charge beyond the purse.
+fn holds_after(purses: &[u64], kind: Kind, p: u64, amount: u64) -> Option<u64>
+    ensures { Holds (moved purses.now (Rattle.purse_model.specs.Journal.entry (said kind) p amount)) purses.now p result }
 {
     if PURSES <= p {
-        return false;
+        return None;
     }
-    let held = entry(purses, p);
-    if kind == 1 {
-        if !fits(held, amount) {
-            return false;
-        }
-        put(purses, p, held + amount);
-        return true;
+    let held = tables::entry(purses, p);
+    match kind {
+        Kind::Credit => held.checked_add(amount).filter(|sum| *sum <= TOP),
+        Kind::Charge => held.checked_sub(amount),
     }
-    if kind == 2 {
-        if held < amount {
-            return false;
-        }
-        put(purses, p, held - amount);
-        return true;
-    }
-    false
 }
 
-// A byte as a word.
-fn wide(b: u8) -> u64
-    ensures { (result ≡ b) × (result < 256) }
+// Makes an entry, where it is one.
+pub fn enter(purses: &mut [u64], kind: u64, p: u64, amount: u64) -> Result<(), NoEntry>
+    ensures { Entered (moved_by purses.old (entry_of (kind_of kind) p amount 0)) purses.old result purses.new }
 {
-    b as u64
+    let kind = Kind::try_from(kind)?;
+    let holds = holds_after(purses, kind, p, amount).ok_or(NoEntry)?;
+    put(purses, p, holds);
+    Ok(())
 }
 
-// Reads the record that these bytes begin with.
-pub fn read_record(bytes: &[u8], purses: &mut [u64]) -> Met
+// Enters the record that these bytes begin with; none where they have no mark.
+pub fn read_record(bytes: &[u8], purses: &mut [u64]) -> Option<Result<(), NoEntry>>
     requires { record_bytes ≤ length bytes.now }
     ensures { ReadsAs result purses.old bytes.now purses.new }
 {
     if bytes[7] != MARK {
-        return Met::NoMark;
+        return None;
     }
     if bytes[6] != 0 {
-        return Met::Wrong;
+        return Some(Err(NoEntry));
     }
-    let first = wide(bytes[0]);
-    let second = wide(bytes[1]);
-    let high = wide(bytes[2]) * 256 + wide(bytes[3]);
-    let low = wide(bytes[4]) * 256 + wide(bytes[5]);
-    if enter(
+    let head = u64::from(u16::from_be_bytes([bytes[0], bytes[1]]));
+    let amount = u32::from_be_bytes([bytes[2], bytes[3], bytes[4], bytes[5]]);
+    Some(enter(
         purses,
-        first / 16,
-        first % 16 * 256 + second,
-        high * 65536 + low,
-    ) {
-        return Met::Made;
-    }
-    Met::Wrong
+        head / PURSE_NUMBERS,
+        head % PURSE_NUMBERS,
+        u64::from(amount),
+    ))
 }
 
-// Reads a journal back, up to the first record without its mark.
-pub fn read_back(journal: &[u8], purses: &mut [u64]) -> Back
+// Reads a journal back, up to the first record without its mark: answers how many records were read.
+pub fn read_back(journal: &[u8], purses: &mut [u64]) -> Result<usize, WrongRecord>
     requires { length purses.old ≡ purse_count }
     ensures { came_back result purses.new ≡ read_back journal.now }
 {
-    clear_words(purses, 64);
+    purses.fill(0);
     let end = journal.len() / RECORD_BYTES;
-    let mut place = 0;
-    while place < end {
-        let at = place * RECORD_BYTES;
-        let met = read_record(&journal[at..], purses);
-        match met {
-            Met::NoMark => {
-                return Back { place, sound: true };
-            }
-            Met::Wrong => {
-                return Back {
-                    place,
-                    sound: false,
-                };
-            }
-            Met::Made => {
-                place += 1;
-            }
+    for place in 0..end {
+        let Some(entered) = read_record(&journal[place * RECORD_BYTES..], purses) else {
+            return Ok(place);
+        };
+        if entered.is_err() {
+            return Err(WrongRecord { place });
         }
     }
-    Back { place, sound: true }
-}
-
-fn kind_number(kind: Kind) -> u64
-    ensures { (result ≡ Rattle.purse_model.specs.Journal.kind_number (said kind)) × (result ≤ 2) }
-{
-    match kind {
-        Kind::Credit => 1,
-        Kind::Charge => 2,
-    }
+    Ok(end)
 }
 
 // The k-th byte of a record.
-pub fn byte_of(kind: Kind, p: u64, amount: u64, k: usize) -> u8
-    requires { (p < purse_count) × (k < record_bytes) }
-    ensures { result ≡ get_or (bytes_of (Rattle.purse_model.specs.Journal.entry (said kind) p amount)) k 0 }
+pub fn byte_of(entry: Entry, k: usize) -> u8
+    requires { k < record_bytes }
+    ensures { result ≡ get_or (bytes_of (entry_said entry)) k 0 }
 {
-    match k {
-        0 => ((kind_number(kind) * 16 + p / 256) % 256) as u8,
-        1 => (p % 256) as u8,
-        2 => (amount / 16777216 % 256) as u8,
-        3 => (amount / 65536 % 256) as u8,
-        4 => (amount / 256 % 256) as u8,
-        5 => (amount % 256) as u8,
-        6 => 0,
-        _ => MARK,
-    }
+    entry.bytes()[k]
 }
 
 // One step of a call: stores the k-th byte of its record.
-pub fn store_byte(journal: &mut [u8], place: usize, kind: Kind, p: u64, amount: u64, k: usize)
-    requires { (p < purse_count) × (k < record_bytes) × (record_bytes * suc place ≤ length journal.old) }
-    ensures { journal.new ≡
-        set journal.old (record_bytes * place + k) (get_or (bytes_of (Rattle.purse_model.specs.Journal.entry (said kind) p amount)) k 0) }
+pub fn store_byte(journal: &mut [u8], place: usize, entry: Entry, k: usize)
+    requires { (k < record_bytes) × (record_bytes * suc place ≤ length journal.old) }
+    ensures { journal.new ≡ set journal.old (record_bytes * place + k) (get_or (bytes_of (entry_said entry)) k 0) }
 {
-    let b = byte_of(kind, p, amount, k);
-    let at = RECORD_BYTES * place + k;
-    journal[at] = b;
+    let b = byte_of(entry, k);
+    journal[RECORD_BYTES * place + k] = b;
 }
 
 // The first n steps of a call that store: what a cut after n steps leaves.
-pub fn store_bytes(journal: &mut [u8], place: usize, kind: Kind, p: u64, amount: u64, n: usize)
-    requires { (p < purse_count) × (record_bytes * suc place ≤ length journal.old) }
+pub fn store_bytes(journal: &mut [u8], place: usize, entry: Entry, n: usize)
+    requires { record_bytes * suc place ≤ length journal.old }
     ensures { journal.new ≡
-        (after n (stores_from (record_bytes * place) (bytes_of (Rattle.purse_model.specs.Journal.entry (said kind) p amount))) (world journal.old [])).journal }
+        (after n (stores_from (record_bytes * place) (bytes_of (entry_said entry))) (world journal.old [])).journal }
 {
-    let end = less_of(n, RECORD_BYTES);
-    let mut k = 0;
-    while k < end {
-        store_byte(journal, place, kind, p, amount, k);
-        k += 1;
+    for k in 0..n.min(RECORD_BYTES) {
+        store_byte(journal, place, entry, k);
     }
 }
 
-// The first n numbers that a run holds back are handed to the bank.
-fn hand_on(held: &[i64], bank: &mut [i64], n: usize)
-    requires { (n ≤ length held.now) × (n ≤ length bank.old) }
-    ensures { bank.new ≡ onto n held.now bank.old }
+// Numbers that a run holds back are handed to the bank.
+fn hand_on(numbers: &[i64], bank: &mut [i64])
+    requires { length numbers.now ≤ length bank.old }
+    ensures { bank.new ≡ numbers.now ++ drop (length numbers.now) bank.old }
 {
-    let mut i = 0;
-    while i < n {
-        bank[i] = held[i];
-        i += 1;
-    }
+    bank[..numbers.len()].copy_from_slice(numbers);
 }
 
 // The first n steps of a call: its record's bytes, the mark last, and then its numbers.
 pub fn make_steps(
     journal: &mut [u8],
     place: usize,
-    kind: Kind,
-    p: u64,
-    amount: u64,
-    held: &[i64],
-    numbers: usize,
+    entry: Entry,
+    numbers: &[i64],
     bank: &mut [i64],
     n: usize,
 )
-    requires { (p < purse_count) × (record_bytes * suc place ≤ length journal.old) × (numbers ≤ length held.now) × (numbers ≤ length bank.old) }
-    ensures { Stepped n (record_bytes * place) (bytes_of (Rattle.purse_model.specs.Journal.entry (said kind) p amount)) numbers held.now
-        journal.old bank.old journal.new bank.new }
+    requires { (record_bytes * suc place ≤ length journal.old) × (length numbers.now ≤ length bank.old) }
+    ensures { Stepped n (record_bytes * place) (bytes_of (entry_said entry)) numbers.now journal.old bank.old journal.new bank.new }
 {
-    store_bytes(journal, place, kind, p, amount, n);
-    if RECORD_BYTES < n {
-        let more = less_of(n - RECORD_BYTES, numbers);
-        hand_on(held, bank, more);
-    }
-}
-
-// What a credit answers: done, or 34 to 36.
-#[derive(Clone, Copy)]
-pub enum CreditAnswer {
-    Done,
-    Purse,
-    Journal,
-    Full,
-}
-
-// May this purse get so much?
-fn admits_credit(purses: &[u64], p: u64, amount: u64) -> bool
-    ensures { result ≡ purse_admits purses.now (credits p amount) }
-{
-    if PURSES <= p {
-        return false;
-    }
-    fits(entry(purses, p), amount)
+    store_bytes(journal, place, entry, n);
+    let more = n.saturating_sub(RECORD_BYTES).min(numbers.len());
+    hand_on(&numbers[..more], bank);
 }
 
 // Is a whole record left at this place?
@@ -251,73 +166,45 @@ pub fn has_room(journal: &[u8], place: usize) -> bool
     place < journal.len() / RECORD_BYTES
 }
 
-// What a credit comes to before its first step: its answer and, where it is done, the place of its record.
-#[derive(Clone, Copy)]
-pub struct CreditBegun {
-    pub answer: CreditAnswer,
-    pub place: usize,
-}
-
-// Judges a credit. The table of purses is left as the journal is read back; nothing is stored.
-pub fn begin_credit(journal: &[u8], purses: &mut [u64], p: u64, amount: u64) -> CreditBegun
+// Judges a credit: answers the place of its record. The table of purses is left as the journal is read back; nothing is stored.
+pub fn begin_credit(
+    journal: &[u8],
+    purses: &mut [u64],
+    p: u64,
+    amount: u64,
+) -> Result<usize, PurseRefusal>
     requires { length purses.old ≡ purse_count }
     ensures { CreditBegins journal.now p amount result purses.new }
 {
-    let back = read_back(journal, purses);
-    let place = back.place;
-    if !back.sound {
-        return CreditBegun {
-            answer: CreditAnswer::Journal,
-            place,
-        };
-    }
-    if !admits_credit(purses, p, amount) {
-        return CreditBegun {
-            answer: CreditAnswer::Purse,
-            place,
-        };
+    let place = read_back(journal, purses)?;
+    if holds_after(purses, Kind::Credit, p, amount).is_none() {
+        return Err(PurseRefusal::Purse(place));
     }
     if !has_room(journal, place) {
-        return CreditBegun {
-            answer: CreditAnswer::Full,
-            place,
-        };
+        return Err(PurseRefusal::Full(place));
     }
-    CreditBegun {
-        answer: CreditAnswer::Done,
-        place,
-    }
-}
-
-// The first n steps of a credit that has been judged: none where it was refused.
-fn store_credit(
-    journal: &mut [u8],
-    answer: CreditAnswer,
-    place: usize,
-    p: u64,
-    amount: u64,
-    n: usize,
-)
-    requires { CreditReady answer place p journal.old }
-    ensures { journal.new ≡ (after n (steps_at place (credit_outcome answer p amount)) (world journal.old [])).journal }
-{
-    match answer {
-        CreditAnswer::Done => store_bytes(journal, place, Kind::Credit, p, amount, n),
-        CreditAnswer::Purse => {}
-        CreditAnswer::Journal => {}
-        CreditAnswer::Full => {}
-    }
+    Ok(place)
 }
 
 // A credit, of whose steps the first n are made: all of them where n is 8 or more. The table of purses is left as the journal was read back.
-pub fn credit(journal: &mut [u8], purses: &mut [u64], p: u64, amount: u64, n: usize) -> CreditAnswer
+pub fn credit(
+    journal: &mut [u8],
+    purses: &mut [u64],
+    p: u64,
+    amount: u64,
+    n: usize,
+) -> Result<(), PurseRefusal>
     requires { length purses.old ≡ purse_count }
     ensures { CreditComes journal.old p amount n result journal.new purses.new }
 {
-    let begun = begin_credit(journal, purses, p, amount);
-    let answer = begun.answer;
-    store_credit(journal, answer, begun.place, p, amount, n);
-    answer
+    let place = begin_credit(journal, purses, p, amount)?;
+    let credited = Entry {
+        kind: Kind::Credit,
+        purse: p,
+        amount,
+    };
+    store_bytes(journal, place, credited, n);
+    Ok(())
 }
 
 // Has what a step is lent the record's place, and that of each number? And is the purse one?
@@ -331,43 +218,30 @@ fn lent_for(
 ) -> bool
     ensures { result ≡ lent_for place p numbers journal.now held.now bank.now }
 {
-    if PURSES <= p {
-        return false;
-    }
-    if !has_room(journal, place) {
-        return false;
-    }
-    if held.len() < numbers {
-        return false;
-    }
-    numbers <= bank.len()
+    p < PURSES && has_room(journal, place) && numbers <= held.len() && numbers <= bank.len()
 }
 
-// Step k of a call whose record has this kind, or false past its last: a byte of its record, or then one of its numbers.
+// Step k of a call that writes this entry, or false past its last: a byte of its record, or then one of its numbers.
 fn step_of(
     journal: &mut [u8],
     place: usize,
-    kind: Kind,
-    p: u64,
-    amount: u64,
-    held: &[i64],
-    numbers: usize,
+    entry: Entry,
+    numbers: &[i64],
     bank: &mut [i64],
     k: usize,
 ) -> bool
-    requires { (p < purse_count) × (record_bytes * suc place ≤ length journal.old) × (numbers ≤ length held.now) × (numbers ≤ length bank.old) }
-    ensures { Makes (nth k (entry_steps (Rattle.purse_model.specs.Journal.entry (said kind) p amount) place numbers held.now)) k
-        journal.old bank.old result journal.new bank.new }
+    requires { (record_bytes * suc place ≤ length journal.old) × (length numbers.now ≤ length bank.old) }
+    ensures { Makes (nth k (entry_steps (entry_said entry) place numbers.now)) k journal.old bank.old result journal.new bank.new }
 {
     if k < RECORD_BYTES {
-        store_byte(journal, place, kind, p, amount, k);
+        store_byte(journal, place, entry, k);
         return true;
     }
     let i = k - RECORD_BYTES;
-    if numbers <= i {
+    let Some(number) = numbers.get(i) else {
         return false;
-    }
-    bank[i] = held[i];
+    };
+    bank[i] = *number;
     true
 }
 
@@ -390,31 +264,13 @@ pub fn step(
     if !lent_for(journal, held, bank, place, p, numbers) {
         return false;
     }
-    if kind == 1 {
-        return step_of(
-            journal,
-            place,
-            Kind::Credit,
-            p,
-            amount,
-            held,
-            numbers,
-            bank,
-            k,
-        );
-    }
-    if kind == 2 {
-        return step_of(
-            journal,
-            place,
-            Kind::Charge,
-            p,
-            amount,
-            held,
-            numbers,
-            bank,
-            k,
-        );
-    }
-    false
+    let Ok(kind) = Kind::try_from(kind) else {
+        return false;
+    };
+    let entry = Entry {
+        kind,
+        purse: p,
+        amount,
+    };
+    step_of(journal, place, entry, &held[..numbers], bank, k)
 }

@@ -1,7 +1,6 @@
 use Rattle.gate.specs.Lent.{limits_of}
 use Rattle.mahrullis.specs.Reports.{RunInto}
 use Rattle.mahrullis.proofs.Ways.{ran_into}
-use Rattle.std.proofs.Common.{rules}
 use Rattle.mahrullis.proofs.mahrullis_run.Goals as goal
 
 pub returns-then-report-lt-REPORT_ENTRIES : goal.returns-then-report-lt-REPORT_ENTRIES

@@ -1,38 +1,36 @@
-use mathlib.Core.Path.{refl, sym, ap, ◌∙◌}
-use lib.Dec.{leb}
+use mathlib.Core.Path.{refl, sym}
 use lib.ListN.{length}
-use Rattle.purse_model.specs.Journal.{purse_count}
-use Rattle.mahrullis.specs.Reports.{report_entries}
+use Rattle.std.specs.Prelude.{Ok, Err}
 use Rattle.mahrullis.specs.PurseReports.{PurseRunInto}
-use Rattle.mahrullis.proofs.PurseWays.{first_purses, same_purses, first_short, second_short, both_long, third_short, then_short, then_long, run_into}
-use Rattle.std.proofs.Common.{rules}
+use Rattle.mahrullis.proofs.PurseWays.{first_purses, whole_told, third_short, then_short, then_long, run_into}
+use Rattle.mahrullis.proofs.calls.mahrullis_purse_run.Goals.{
+  then-not-told_whole-via-then-not-told_whole,
+  then-not-told_whole-via-else-not-told_whole+then-bank-held,
+}
 use Rattle.mahrullis.proofs.calls.mahrullis_purse_run.Goals as goal
 
-pub returns-then-purses-lt-PURSE_ENTRIES : goal.returns-then-purses-lt-PURSE_ENTRIES
-returns-then-purses-lt-PURSE_ENTRIES c =
-    PurseRunInto.untold (third_short _ (length c.args.held.now) (length c.args.bank.now)
-    (first_short purse_count (length c.args.purses.now) (leb report_entries (length c.args.report.now)) c.if-purses-lt-PURSE_ENTRIES.true))
+pub returns-then-not-told_whole : goal.returns-then-not-told_whole
+returns-then-not-told_whole c =
+    elim c.then-not-told_whole.branch [
+      | then-not-told_whole-via-then-not-told_whole w ↦ PurseRunInto.untold (third_short _ (length c.args.held.now) (length c.args.bank.now) (sym w.if-not-told_whole.ensures))
+      | then-not-told_whole-via-else-not-told_whole+then-bank-held w ↦
+          PurseRunInto.untold (then_short _ (length c.args.held.now) (length c.args.bank.now) (sym w.if-not-told_whole.ensures) w.if-bank-held.true)
+    ]
 
-pub returns-then-report-lt-REPORT_ENTRIES : goal.returns-then-report-lt-REPORT_ENTRIES
-returns-then-report-lt-REPORT_ENTRIES c =
-    PurseRunInto.untold (third_short _ (length c.args.held.now) (length c.args.bank.now)
-    (second_short purse_count (length c.args.purses.now) report_entries (length c.args.report.now) c.if-purses-lt-PURSE_ENTRIES.false c.if-report-lt-REPORT_ENTRIES.true))
-
-pub returns-then-bank-held : goal.returns-then-bank-held
-returns-then-bank-held c =
-    PurseRunInto.untold (then_short _ (length c.args.held.now) (length c.args.bank.now)
-    (both_long purse_count (length c.args.purses.now) report_entries (length c.args.report.now) c.if-purses-lt-PURSE_ENTRIES.false c.if-report-lt-REPORT_ENTRIES.false)
-    c.if-bank-held.true)
+pub slice_bounds-run_from_purse-end-2 : goal.slice_bounds-run_from_purse-end-2
+slice_bounds-run_from_purse-end-2 c = sym (first_purses c.args.purses.now (whole_told c.args.purses.now c.args.report.now (sym c.if-not-told_whole.ensures)).0)
 
 pub run_from_purse-answer-requires : goal.run_from_purse-answer-requires
-run_from_purse-answer-requires c = (first_purses c.args.purses.now c.if-purses-lt-PURSE_ENTRIES.false, c.if-bank-held.false)
+run_from_purse-answer-requires c = (first_purses c.args.purses.now (whole_told c.args.purses.now c.args.report.now (sym c.if-not-told_whole.ensures)).0, c.if-bank-held.false)
 
-pub put_answer-requires : goal.put_answer-requires
-put_answer-requires c = c.if-report-lt-REPORT_ENTRIES.false
+pub returns-in-Ok : goal.returns-in-Ok
+returns-in-Ok c =
+    run_into _ _ _ _ _ _ _ _ _ _ _ _ _ _ _ _ _ _ _ c.args.n c.args.bank.now (Ok c.in-Ok.said) _ _
+    (then_long _ (length c.args.held.now) (length c.args.bank.now) (sym c.if-not-told_whole.ensures) c.if-bank-held.false) refl c.in-Ok.ensures
+    (c.put_report.ensures.answers, c.put_report.ensures.holds)
 
-pub returns : goal.returns
-returns c =
-    run_into _ _ _ _ _ _ _ _ _ _ _ _ _ _ _ _ _ _ _ c.args.n c.args.bank.now c.run_from_purse-answer.result _ _
-    (then_long _ (length c.args.held.now) (length c.args.bank.now)
-    (both_long purse_count (length c.args.purses.now) report_entries (length c.args.report.now) c.if-purses-lt-PURSE_ENTRIES.false c.if-report-lt-REPORT_ENTRIES.false)
-    c.if-bank-held.false) refl c.run_from_purse-answer.ensures c.put_answer.ensures
+pub returns-in-Err : goal.returns-in-Err
+returns-in-Err c =
+    run_into _ _ _ _ _ _ _ _ _ _ _ _ _ _ _ _ _ _ _ c.args.n c.args.bank.now (Err c.in-Err.refusal) _ _
+    (then_long _ (length c.args.held.now) (length c.args.bank.now) (sym c.if-not-told_whole.ensures) c.if-bank-held.false) refl c.in-Err.ensures
+    c.put_refusal.ensures
