@@ -6,154 +6,216 @@
 
 #![tactic(auto)]
 
-use amounts::Amount;
+ghost use Rattle.std.specs.Prelude.{IfOk, IfSome, ◌<◌, ◌≤◌, length};
+
 use answers::Report;
+use lines::Tally;
 use runner::Limits;
-use std::io;
 use std::io::{Read, Write};
+use std::{fmt, io};
 
-// How many cases were tried, and how many agree.
+// A case's line: its columns, and a name in the rest but for the line end.
+const LINE: usize = 136;
+
+const COLUMN: usize = 8;
+
+const COLUMNS: usize = 14;
+
+const NAME: usize = COLUMNS * COLUMN;
+
+// A line with a number expected.
+const NUMBER_LINE: usize = 24;
+
+// Room for a script, its line end and more.
+const ROOM: usize = 32_768;
+
+// The most numbers that a run may put out.
+const MOST_NUMBERS: usize = 4096;
+
+// No more cases are tried.
+const MOST_CASES: u64 = 1_000_000;
+
+// What a run comes to: the answer's number and place, what was taken and put out, and UNSET's second place.
+#[derive(Clone, Copy, PartialEq, Eq)]
+struct Outcome {
+    number: u64,
+    place: u64,
+    units: u64,
+    bindings: u64,
+    cells: u64,
+    numbers: u64,
+    made: u64,
+}
+
+impl From<Report> for Outcome {
+    fn from(report: Report) -> Outcome {
+        let Report {
+            answer,
+            units,
+            bindings,
+            cells,
+            numbers,
+        } = report;
+        Outcome {
+            number: answers::number_of(answer),
+            place: answers::place_of(answer),
+            units,
+            bindings,
+            cells,
+            numbers,
+            made: answers::made_of(answer),
+        }
+    }
+}
+
+impl fmt::Display for Outcome {
+    fn fmt<W: fmt::Write>(&self, f: &mut fmt::Formatter<W>) -> fmt::Result {
+        let Outcome {
+            number,
+            place,
+            units,
+            bindings,
+            cells,
+            numbers,
+            made,
+        } = *self;
+        write!(
+            f,
+            "answers {number} at {place} units {units} bindings {bindings}"
+        )?;
+        write!(f, " cells {cells} numbers {numbers} made at {made}")
+    }
+}
+
+// What a case's line says.
 #[derive(Clone, Copy)]
-pub struct Tally {
-    pub tried: u64,
-    pub agree: u64,
+struct Case {
+    // none where the last script is run again
+    length: Option<usize>,
+    limits: Limits,
+    expected: Outcome,
 }
 
-fn number_in(amount: Amount) -> i64 {
-    match amount {
-        Amount::Is(n) => n,
-        Amount::Range => 0,
-        Amount::Zero => 0,
+impl Case {
+    fn read(line: &[u8]) -> Case {
+        let [
+            follows,
+            length,
+            fuel,
+            depth,
+            bindings,
+            cells,
+            output,
+            number,
+            place,
+            taken_units,
+            taken_bindings,
+            taken_cells,
+            numbers,
+            made,
+        ] = columns::<COLUMNS>(line);
+        Case {
+            length: (follows != 0).then_some(length as usize),
+            limits: Limits {
+                fuel,
+                depth,
+                bindings,
+                cells,
+                output,
+            },
+            expected: Outcome {
+                number,
+                place,
+                units: taken_units,
+                bindings: taken_bindings,
+                cells: taken_cells,
+                numbers,
+                made,
+            },
+        }
     }
 }
 
-// The number that a line writes at a column, 0 where there is none.
-pub fn number_at(line: &[u8], at: usize) -> i64 {
-    match numerals::number_at(line, at) {
-        numerals::Read::Number(_, amount) => number_in(amount),
-        numerals::Read::Not => 0,
-    }
+// The number that a line writes at a column, where there is one within the range.
+pub fn number_at(line: &[u8], at: usize) -> Option<i64> {
+    numerals::number_at(line, at)?.value.ok()
 }
 
+// The same as a count, 0 where there is none.
 pub fn count_at(line: &[u8], at: usize) -> u64 {
-    amounts::to_word(number_at(line, at))
+    number_at(line, at).unwrap_or(0).cast_unsigned()
 }
 
-// Reads a script of so many bytes and the line end behind it, and answers its length; where the text has no room it reads nothing and answers `last`.
-pub fn read_script(
-    input: &mut impl Read,
-    text: &mut [u8],
-    length: usize,
-    last: usize,
-) -> io::Result<usize> {
-    if text.len() <= length {
-        return Ok(last);
+// The counts in a line's first columns.
+pub fn columns<const N: usize>(line: &[u8]) -> [u64; N] {
+    let mut counts = [0; N];
+    for (i, count) in counts.iter_mut().enumerate() {
+        *count = count_at(line, i.saturating_mul(COLUMN));
     }
-    // with the line end behind it
-    let end = length + 1;
-    lines::read_full(input, &mut text[0..end])?;
-    Ok(length)
+    counts
+}
+
+// Reads a script of so many bytes and the line end behind it, and answers its length: none, with nothing read, where the text has no room.
+pub fn read_script(input: &mut impl Read, text: &mut [u8], size: usize) -> io::Result<Option<usize>>
+    ensures { IfOk result (λ read. IfSome read (λ n. n < length text.new)) }
+{
+    if text.len() <= size {
+        return Ok(None);
+    }
+    lines::read_full(input, &mut text[..=size])?;
+    Ok(Some(size))
 }
 
 // Reads the script that follows, where one does, and answers its length; else the length of the last one.
-fn script(input: &mut impl Read, line: &[u8], text: &mut [u8], last: usize) -> io::Result<usize> {
-    if count_at(line, 0) == 0 {
-        return Ok(last);
+fn script(input: &mut impl Read, case: Case, text: &mut [u8], last: usize) -> io::Result<usize>
+    requires { last ≤ length text.old }
+    ensures { IfOk result (λ n. n ≤ length text.new) }
+{
+    match case.length {
+        Some(length) => Ok(read_script(input, text, length)?.unwrap_or(last)),
+        None => Ok(last),
     }
-    read_script(input, text, count_at(line, 8) as usize, last)
-}
-
-fn as_expected(line: &[u8], report: Report) -> bool {
-    let answer = report.answer;
-    answers::number_of(answer) == count_at(line, 56)
-        && answers::place_of(answer) == count_at(line, 64)
-        && report.units == count_at(line, 72)
-        && report.bindings == count_at(line, 80)
-        && report.cells == count_at(line, 88)
-        && report.numbers == count_at(line, 96)
-        && answers::made_of(answer) == count_at(line, 104)
 }
 
 // The next line's number, which is expected.
 fn next_number(input: &mut impl Read) -> io::Result<i64> {
-    let mut line = [0u8; 24];
+    let mut line = [0u8; NUMBER_LINE];
     lines::read_full(input, &mut line)?;
-    Ok(number_at(&line, 0))
+    Ok(number_at(&line, 0).unwrap_or(0))
 }
 
 // Reads the numbers expected, and compares each.
 fn numbers_agree(input: &mut impl Read, output: &[i64], count: u64) -> io::Result<bool> {
     let mut agree = true;
-    let mut left = count;
-    let mut i: usize = 0;
-    while i < output.len() {
-        if left == 0 {
-            return Ok(agree);
-        }
-        let number = next_number(input)?;
-        if number != output[i] {
+    for &number in output.iter().take(count as usize) {
+        if next_number(input)? != number {
             agree = false;
         }
-        left -= 1;
-        i += 1;
     }
     Ok(agree)
 }
 
 // A case's name.
-fn say_name(out: &mut impl Write, line: &[u8]) -> io::Result<()> {
-    if 135 <= line.len() {
-        lines::text(out, &line[112..135])?;
-    }
-    Ok(())
-}
-
-fn say_report(out: &mut impl Write, report: Report) -> io::Result<()> {
-    let answer = report.answer;
-    lines::text(out, b" answers ")?;
-    lines::count(out, answers::number_of(answer))?;
-    lines::text(out, b" at ")?;
-    lines::count(out, answers::place_of(answer))?;
-    lines::text(out, b" units ")?;
-    lines::count(out, report.units)?;
-    lines::text(out, b" bindings ")?;
-    lines::count(out, report.bindings)?;
-    lines::text(out, b" cells ")?;
-    lines::count(out, report.cells)?;
-    lines::text(out, b" numbers ")?;
-    lines::count(out, report.numbers)?;
-    lines::text(out, b" made at ")?;
-    lines::count(out, answers::made_of(answer))
+fn say_name(out: &mut impl Write, line: &[u8; LINE]) -> io::Result<()> {
+    out.write_all(&line[NAME..LINE - 1])
 }
 
 // Says of a case what it came to: of each where all are to be named, else only of one that differs.
 fn say(
     out: &mut impl Write,
-    line: &[u8],
+    line: &[u8; LINE],
     named: bool,
     agrees: bool,
-    report: Report,
+    outcome: Outcome,
 ) -> io::Result<()> {
-    if agrees {
-        if named {
-            say_name(out, line)?;
-            lines::text(out, b" ok\n")?;
-        }
-        Ok(())
-    } else {
+    if !agrees {
         say_name(out, line)?;
-        say_report(out, report)?;
-        lines::text(out, b"\n")
-    }
-}
-
-fn limits_in(line: &[u8]) -> Limits {
-    Limits {
-        fuel: count_at(line, 16),
-        depth: count_at(line, 24),
-        bindings: count_at(line, 32),
-        cells: count_at(line, 40),
-        output: count_at(line, 48),
+        writeln!(out, " {outcome}")
+    } else if named {
+        say_name(out, line)?;
+        writeln!(out, " ok")
+    } else {
+        Ok(())
     }
 }
 
@@ -161,84 +223,31 @@ fn limits_in(line: &[u8]) -> Limits {
 fn try_case(
     input: &mut impl Read,
     out: &mut impl Write,
-    line: &[u8],
+    line: &[u8; LINE],
     named: bool,
-    text: &[u8],
-    length: usize,
+    case: Case,
+    script: &[u8],
 ) -> io::Result<bool> {
-    if text.len() < length {
-        return Ok(false);
-    }
-    let mut output = [0i64; 4096];
-    let report = runner::run(&text[0..length], limits_in(line), &mut output);
-    let numbers = numbers_agree(input, &output, count_at(line, 96))?;
-    let agrees = as_expected(line, report) && numbers;
-    say(out, line, named, agrees, report)?;
+    let mut output = [0i64; MOST_NUMBERS];
+    let outcome = Outcome::from(runner::run(script, case.limits, &mut output));
+    let numbers_agree = numbers_agree(input, &output, case.expected.numbers)?;
+    let agrees = outcome == case.expected && numbers_agree;
+    say(out, line, named, agrees, outcome)?;
     Ok(agrees)
-}
-
-// The same over the reader's arrays.
-fn try_in(
-    input: &mut impl Read,
-    out: &mut impl Write,
-    line: &[u8; 136],
-    named: bool,
-    text: &[u8; 32768],
-    length: usize,
-) -> io::Result<bool> {
-    try_case(input, out, line, named, text, length)
-}
-
-fn next_script(
-    input: &mut impl Read,
-    line: &[u8; 136],
-    text: &mut [u8; 32768],
-    last: usize,
-) -> io::Result<usize> {
-    script(input, line, text, last)
-}
-
-fn next_line(input: &mut impl Read, line: &mut [u8; 136]) -> io::Result<bool> {
-    Ok(lines::read_full(input, line)? == 136)
-}
-
-pub fn counted(tally: Tally, agrees: bool) -> Tally {
-    let tried = std::num::wrapping_add_u64(tally.tried, 1);
-    if agrees {
-        Tally {
-            tried,
-            agree: std::num::wrapping_add_u64(tally.agree, 1),
-        }
-    } else {
-        Tally {
-            tried,
-            agree: tally.agree,
-        }
-    }
-}
-
-pub fn say_tally(out: &mut impl Write, tally: Tally) -> io::Result<()> {
-    lines::count(out, tally.agree)?;
-    lines::text(out, b" of ")?;
-    lines::count(out, tally.tried)?;
-    lines::text(out, b" agree\n")
 }
 
 // Tries every case, of no more than a million, and says how many agree.
 pub fn try_all(input: &mut impl Read, out: &mut impl Write, named: bool) -> io::Result<()> {
-    let mut line = [0u8; 136];
-    let mut text = [0u8; 32768];
-    let mut length: usize = 0;
-    let mut tally = Tally { tried: 0, agree: 0 };
-    let mut left: u64 = 1_000_000;
-    while 0 < left {
-        if !next_line(input, &mut line)? {
-            return say_tally(out, tally);
-        }
-        length = next_script(input, &line, &mut text, length)?;
-        let agrees = try_in(input, out, &line, named, &text, length)?;
-        tally = counted(tally, agrees);
-        left -= 1;
+    let mut text = [0u8; ROOM];
+    let mut length = 0;
+    let mut tally = Tally::default();
+    for _ in 0..MOST_CASES {
+        let Some(line) = lines::next_line::<LINE>(input)? else {
+            break;
+        };
+        let case = Case::read(&line);
+        length = script(input, case, &mut text, length)?;
+        tally.count(try_case(input, out, &line, named, case, &text[..length])?);
     }
-    say_tally(out, tally)
+    writeln!(out, "{tally}")
 }

@@ -5,14 +5,24 @@
 
 #![tactic(auto)]
 
+use answers::Answer;
+use lines::Tally;
 use std::io;
-use std::io::{Read, Write};
+use std::io::Read;
 
-#[derive(Clone, Copy)]
-struct Line {
-    whole: bool,
-    number: u64,
-}
+// A line's digits, and their line end.
+const DIGITS: usize = 16;
+
+const LINE: usize = DIGITS + 1;
+
+// Room for a script, its line end and more.
+const ROOM: usize = 32_768;
+
+// The most words that a tree, or a script, may have.
+const MOST_WORDS: usize = 4096;
+
+// No more cases are tried.
+const MOST_CASES: u64 = 1_000_000;
 
 #[derive(Clone, Copy)]
 struct Case {
@@ -22,210 +32,139 @@ struct Case {
     words: u64,
 }
 
+// The tables that CHECK is lent.
 #[derive(Clone, Copy)]
-struct Tally {
-    tried: u64,
-    agree: u64,
+struct Tables {
+    tree: [u64; MOST_WORDS],
+    words: [u64; MOST_WORDS],
+    stack: [u64; MOST_WORDS + 1],
+    scopes: [u64; MOST_WORDS],
+    notes: [u64; MOST_WORDS],
 }
 
+// Kept: char::to_digit would read A to F too.
 fn digit(b: u8) -> u64 {
     match b {
-        b'0'..=b'9' => (b - b'0') as u64,
-        b'a'..=b'f' => (b - b'a') as u64 + 10,
+        b'0'..=b'9' => u64::from(b - b'0'),
+        b'a'..=b'f' => u64::from(b - b'a') + 10,
         _ => 0,
     }
 }
 
-fn number_in(line: &[u8; 17]) -> u64 {
-    let mut n: u64 = 0;
-    let mut i: usize = 0;
-    while i < 16 {
-        n = n % 1152921504606846976 * 16 + digit(line[i]) % 16;
-        i += 1;
-    }
-    n
-}
-
-fn next_line(input: &mut impl Read) -> io::Result<Line> {
-    let mut line = [0u8; 17];
-    let got = lines::read_full(input, &mut line)?;
-    Ok(Line {
-        whole: got == 17,
-        number: number_in(&line),
-    })
+fn number_in(line: &[u8; LINE]) -> u64 {
+    line.iter()
+        .take(DIGITS)
+        .fold(0, |number, &b| number << 4 | digit(b))
 }
 
 fn next_number(input: &mut impl Read) -> io::Result<u64> {
-    let line = next_line(input)?;
-    Ok(line.number)
+    let mut line = [0u8; LINE];
+    lines::read_full(input, &mut line)?;
+    Ok(number_in(&line))
 }
 
 // The rest of a case whose first line was read.
-fn next_case(input: &mut impl Read, number: u64) -> io::Result<Case> {
-    let place = next_number(input)?;
-    let length = next_number(input)? as usize;
-    let words = next_number(input)?;
+fn next_case(input: &mut impl Read, line: &[u8; LINE]) -> io::Result<Case> {
     Ok(Case {
-        number,
-        place,
-        length,
-        words,
+        number: number_in(line),
+        place: next_number(input)?,
+        length: next_number(input)? as usize,
+        words: next_number(input)?,
     })
 }
 
-// Reads the script with the line end behind it.
-fn next_script(input: &mut impl Read, text: &mut [u8], length: usize) -> io::Result<bool> {
-    if text.len() <= length {
-        return Ok(false);
-    }
-    let end = length + 1;
-    Ok(lines::read_full(input, &mut text[0..end])? == end)
-}
-
 // Reads the words expected, and compares each.
-fn words_agree(input: &mut impl Read, tree: &[u64], words: u64) -> io::Result<bool> {
+fn words_agree(input: &mut impl Read, tree: &[u64], count: u64) -> io::Result<bool> {
     let mut agree = true;
-    let mut left = words;
-    let mut i: usize = 0;
-    while i < tree.len() {
-        if left == 0 {
-            return Ok(agree);
-        }
-        let word = next_number(input)?;
-        if word != tree[i] {
+    for &word in tree.iter().take(count as usize) {
+        if next_number(input)? != word {
             agree = false;
         }
-        left -= 1;
-        i += 1;
     }
     Ok(agree)
 }
 
-fn zero_from(table: &[u64], from: usize) -> bool {
-    let mut i = from;
-    while i < table.len() {
-        if table[i] != 0 {
-            return false;
+fn is_zero(table: &[u64]) -> bool {
+    table.iter().all(|&word| word == 0)
+}
+
+impl Tables {
+    fn new() -> Tables {
+        Tables {
+            tree: [0; MOST_WORDS],
+            words: [0; MOST_WORDS],
+            stack: [0; MOST_WORDS + 1],
+            scopes: [0; MOST_WORDS],
+            notes: [0; MOST_WORDS],
         }
-        i += 1;
     }
-    true
+
+    fn check(&mut self, text: &[u8]) -> Answer {
+        answers::answer_to(verdict::check(
+            text,
+            &mut self.tree,
+            &mut self.words,
+            &mut self.stack,
+            &mut self.scopes,
+            &mut self.notes,
+        ))
+    }
+
+    // Whether zeros are left behind the tree, and in the other tables.
+    fn is_clear_from(&self, tree_end: usize) -> bool {
+        self.tree.iter().skip(tree_end).all(|&word| word == 0)
+            && is_zero(&self.words)
+            && is_zero(&self.stack)
+            && is_zero(&self.scopes)
+            && is_zero(&self.notes)
+    }
 }
 
 // Where the tree ends: none is left after a refusal. LENGTH leaves the table as it was, so that all of it may be the last case's tree.
-fn tree_end(number: u64, words: u64, size: usize) -> usize {
-    if number == 1 {
-        return size;
+fn tree_end(answer: Answer, words: u64) -> usize {
+    match answer {
+        Answer::Done => words as usize,
+        Answer::Length => MOST_WORDS,
+        _ => 0,
     }
-    if number == 0 {
-        return words as usize;
-    }
-    0
 }
 
 fn try_case(
     input: &mut impl Read,
     case: Case,
-    text: &[u8],
-    tree: &mut [u64],
-    words: &mut [u64],
-    stack: &mut [u64],
-    scopes: &mut [u64],
-    notes: &mut [u64],
+    text: &mut [u8; ROOM],
+    tables: &mut Tables,
 ) -> io::Result<bool> {
     let length = case.length;
-    if text.len() < length {
+    if text.len() <= length {
         return Ok(false);
     }
-    let answer = answers::answer_to(verdict::check(
-        &text[0..length],
-        tree,
-        words,
-        stack,
-        scopes,
-        notes,
-    ));
-    let number = answers::number_of(answer);
-    let tree_agrees = words_agree(input, tree, case.words)?;
+    // with the line end behind it
+    let read = lines::read_full(input, &mut text[..=length])?;
+    if read <= length {
+        return Ok(false);
+    }
+    let answer = tables.check(&text[..length]);
+    let tree_agrees = words_agree(input, &tables.tree, case.words)?;
     Ok(
         tree_agrees
-            && number == case.number
+            && answers::number_of(answer) == case.number
             && answers::place_of(answer) == case.place
-            && zero_from(tree, tree_end(number, case.words, tree.len()))
-            && zero_from(words, 0)
-            && zero_from(stack, 0)
-            && zero_from(scopes, 0)
-            && zero_from(notes, 0),
+            && tables.is_clear_from(tree_end(answer, case.words)),
     )
 }
 
-fn try_in(
-    input: &mut impl Read,
-    case: Case,
-    text: &mut [u8; 32768],
-    tree: &mut [u64; 4096],
-    words: &mut [u64; 4096],
-    stack: &mut [u64; 4097],
-    scopes: &mut [u64; 4096],
-    notes: &mut [u64; 4096],
-) -> io::Result<bool> {
-    if !next_script(input, text, case.length)? {
-        return Ok(false);
-    }
-    try_case(input, case, text, tree, words, stack, scopes, notes)
-}
-
-fn counted(tally: Tally, agrees: bool) -> Tally {
-    let tried = std::num::wrapping_add_u64(tally.tried, 1);
-    if agrees {
-        Tally {
-            tried,
-            agree: std::num::wrapping_add_u64(tally.agree, 1),
-        }
-    } else {
-        Tally {
-            tried,
-            agree: tally.agree,
-        }
-    }
-}
-
-fn print_tally(out: &mut impl Write, tally: Tally) -> io::Result<()> {
-    lines::count(out, tally.agree)?;
-    lines::text(out, b" of ")?;
-    lines::count(out, tally.tried)?;
-    lines::text(out, b" agree\n")
-}
-
-// Tries every case, of no more than a million.
 fn main(rt: HostRuntime) -> io::Result<()> {
     let mut input = rt.stdin();
-    let mut text = [0u8; 32768];
-    let mut tree = [0u64; 4096];
-    let mut words = [0u64; 4096];
-    let mut stack = [0u64; 4097];
-    let mut scopes = [0u64; 4096];
-    let mut notes = [0u64; 4096];
-    let mut tally = Tally { tried: 0, agree: 0 };
-    let mut left: u64 = 1_000_000;
-    while 0 < left {
-        let line = next_line(&mut input)?;
-        if !line.whole {
-            return print_tally(&mut rt.stdout(), tally);
-        }
-        let case = next_case(&mut input, line.number)?;
-        let agrees = try_in(
-            &mut input,
-            case,
-            &mut text,
-            &mut tree,
-            &mut words,
-            &mut stack,
-            &mut scopes,
-            &mut notes,
-        )?;
-        tally = counted(tally, agrees);
-        left -= 1;
+    let mut text = [0u8; ROOM];
+    let mut tables = Tables::new();
+    let mut tally = Tally::default();
+    for _ in 0..MOST_CASES {
+        let Some(line) = lines::next_line::<LINE>(&mut input)? else {
+            break;
+        };
+        let case = next_case(&mut input, &line)?;
+        tally.count(try_case(&mut input, case, &mut text, &mut tables)?);
     }
-    print_tally(&mut rt.stdout(), tally)
+    println!(rt; "{tally}")
 }

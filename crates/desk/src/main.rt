@@ -9,71 +9,70 @@ use answers::Report;
 use std::io;
 use std::io::Write;
 
+// The greatest limits: on fuel, on depth, and each on bindings, cells and output.
+const FUEL: u64 = 1_000_000;
+
+const DEPTH: u64 = 200;
+
+const ROOM: u64 = 4_096;
+
+// What the tables need for them: a script's words; the evaluator's rows; and the output.
+const WORDS: usize = 4_096;
+
+const STACK: usize = WORDS + 1;
+
+const ROWS: usize = 2 * WORDS;
+
+// How many tables RUN is lent.
+const TABLES: u64 = 9;
+
 // n, or one less where the table is the one to be too small.
 fn entries(n: usize, is_short: bool) -> usize
     ensures { result ≤ n }
 {
-    if is_short && 0 < n {
-        return n - 1;
-    }
-    n
+    n.saturating_sub(usize::from(is_short))
 }
 
-// What RUN answers where one of nine tables is too small, 9 where none is.
+// What RUN answers where one of the tables is too small: none, where the number is past them.
+// Kept: a table goes by its place in RUN's order, since that number is what is printed.
 fn answer_with_short(table: u64) -> Report {
-    let mut tree = [0u64; 4096];
-    let mut words = [0u64; 4096];
-    let mut stack = [0u64; 4097];
-    let mut scopes = [0u64; 4096];
-    let mut notes = [0u64; 4096];
-    let mut waiting = [0u64; 8192];
-    let mut bindings = [0u64; 8192];
-    let mut cells = [0u64; 8192];
-    let mut output = [0i64; 4096];
-    let tree_end = entries(4096, table == 0);
-    let words_end = entries(4096, table == 1);
-    let stack_end = entries(4097, table == 2);
-    let scopes_end = entries(4096, table == 3);
-    let notes_end = entries(4096, table == 4);
-    let waiting_end = entries(8192, table == 5);
-    let bindings_end = entries(8192, table == 6);
-    let cells_end = entries(8192, table == 7);
-    let output_end = entries(4096, table == 8);
+    let mut tree = [0u64; WORDS];
+    let mut words = [0u64; WORDS];
+    let mut stack = [0u64; STACK];
+    let mut scopes = [0u64; WORDS];
+    let mut notes = [0u64; WORDS];
+    let mut waiting = [0u64; ROWS];
+    let mut bindings = [0u64; ROWS];
+    let mut cells = [0u64; ROWS];
+    let mut output = [0i64; WORDS];
     gate::run(
         b"[ECHO 1]",
-        1_000_000,
-        200,
-        4_096,
-        4_096,
-        4_096,
-        &mut tree[0..tree_end],
-        &mut words[0..words_end],
-        &mut stack[0..stack_end],
-        &mut scopes[0..scopes_end],
-        &mut notes[0..notes_end],
-        &mut waiting[0..waiting_end],
-        &mut bindings[0..bindings_end],
-        &mut cells[0..cells_end],
-        &mut output[0..output_end],
+        FUEL,
+        DEPTH,
+        ROOM,
+        ROOM,
+        ROOM,
+        &mut tree[..entries(WORDS, table == 0)],
+        &mut words[..entries(WORDS, table == 1)],
+        &mut stack[..entries(STACK, table == 2)],
+        &mut scopes[..entries(WORDS, table == 3)],
+        &mut notes[..entries(WORDS, table == 4)],
+        &mut waiting[..entries(ROWS, table == 5)],
+        &mut bindings[..entries(ROWS, table == 6)],
+        &mut cells[..entries(ROWS, table == 7)],
+        &mut output[..entries(WORDS, table == 8)],
     )
 }
 
-// Says what RUN answers where a table is too small.
 fn say_short(out: &mut impl Write, table: u64) -> io::Result<()> {
-    let report = answer_with_short(table);
-    let answer = report.answer;
-    lines::text(out, b"table ")?;
-    lines::count(out, table)?;
-    lines::text(out, b" too small: ")?;
-    lines::count(out, answers::number_of(answer))?;
-    lines::text(out, b"\n")
+    let number = answers::number_of(answer_with_short(table).answer);
+    writeln!(out, "table {table} too small: {number}")
 }
 
+// What RUN answers where each table in turn is too small, and where none is.
 fn say_all_short(out: &mut impl Write) -> io::Result<()> {
-    let mut table: u64 = 0;
-    while table <= 9 {
+    for table in 0..=TABLES {
         say_short(out, table)?;
-        table += 1;
     }
     Ok(())
 }

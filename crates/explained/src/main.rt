@@ -9,63 +9,45 @@ use runner::Limits;
 use std::io;
 use std::io::{Read, Write};
 
-fn next_line(input: &mut impl Read, line: &mut [u8; 80]) -> io::Result<bool> {
-    Ok(lines::read_full(input, line)? == 80)
-}
+// A script's first line, and where its title begins.
+const LINE: usize = 80;
 
-fn say_title(out: &mut impl Write, line: &[u8]) -> io::Result<()> {
-    if 80 <= line.len() {
-        lines::text(out, &line[48..80])?;
-    }
-    Ok(())
-}
+const TITLE: usize = 48;
 
-fn limits_in(line: &[u8]) -> Limits {
-    Limits {
-        fuel: cases::count_at(line, 8),
-        depth: cases::count_at(line, 16),
-        bindings: cases::count_at(line, 24),
-        cells: cases::count_at(line, 32),
-        output: cases::count_at(line, 40),
-    }
-}
+// Room for a script, its line end and more.
+const ROOM: usize = 16_400;
+
+// No more scripts are explained.
+const MOST_SCRIPTS: u64 = 1_000;
 
 fn explain_next(
     input: &mut impl Read,
     out: &mut impl Write,
-    line: &[u8],
-    text: &mut [u8],
+    line: &[u8; LINE],
+    text: &mut [u8; ROOM],
 ) -> io::Result<()> {
-    let length = cases::read_script(input, text, cases::count_at(line, 0) as usize, 0)?;
-    say_title(out, line)?;
-    if length <= text.len() {
-        explaining::explain(out, &text[0..length], limits_in(line))?;
-    }
-    Ok(())
+    let [length, fuel, depth, bindings, cells, output] = cases::columns::<6>(line);
+    let limits = Limits {
+        fuel,
+        depth,
+        bindings,
+        cells,
+        output,
+    };
+    let length = cases::read_script(input, text, length as usize)?.unwrap_or(0);
+    out.write_all(&line[TITLE..])?;
+    explaining::explain(out, &text[..length], limits)
 }
 
-fn explain_in(
-    input: &mut impl Read,
-    out: &mut impl Write,
-    line: &[u8; 80],
-    text: &mut [u8; 16400],
-) -> io::Result<()> {
-    explain_next(input, out, line, text)
-}
-
-// No more than a thousand scripts.
 fn main(rt: HostRuntime) -> io::Result<()> {
     let mut input = rt.stdin();
     let mut out = rt.stdout();
-    let mut line = [0u8; 80];
-    let mut text = [0u8; 16400];
-    let mut left: u64 = 1_000;
-    while 0 < left {
-        if !next_line(&mut input, &mut line)? {
-            return Ok(());
-        }
-        explain_in(&mut input, &mut out, &line, &mut text)?;
-        left -= 1;
+    let mut text = [0u8; ROOM];
+    for _ in 0..MOST_SCRIPTS {
+        let Some(line) = lines::next_line::<LINE>(&mut input)? else {
+            break;
+        };
+        explain_next(&mut input, &mut out, &line, &mut text)?;
     }
     Ok(())
 }

@@ -4,82 +4,102 @@
 
 mod sentences;
 
-use crate::sentences::{say_name, say_sentence};
+use crate::sentences::{name, say_sentence};
 use answers::{Answer, Report};
 use runner::Limits;
-use std::io;
+use spots::Spot;
 use std::io::Write;
+use std::{fmt, io};
 
-fn wide(n: usize) -> u64 {
-    n as u64
-}
+// The most numbers that a run may put out.
+const MOST_NUMBERS: usize = 4096;
 
-fn index(n: u64) -> usize {
-    n as usize
-}
+// The room for a row of `spots`.
+const ROW: usize = 128;
 
 // So many of a thing: 1 cell, 2 cells.
-fn say_count(out: &mut impl Write, n: u64, thing: &[u8]) -> io::Result<()> {
-    lines::count(out, n)?;
-    lines::text(out, thing)?;
-    if n != 1 {
-        lines::text(out, b"s")?;
+#[derive(Clone, Copy)]
+struct Count(u64, &'static str);
+
+impl fmt::Display for Count {
+    fn fmt<W: fmt::Write>(&self, f: &mut fmt::Formatter<W>) -> fmt::Result {
+        let Count(n, thing) = *self;
+        let ending = if n == 1 { "" } else { "s" };
+        write!(f, "{n} {thing}{ending}")
     }
-    Ok(())
 }
 
-fn say_place(out: &mut impl Write, text: &[u8], at: usize) -> io::Result<()> {
-    let found = spots::spot_at(text, at);
-    lines::text(out, b" at byte ")?;
-    lines::count(out, wide(found.place))?;
-    lines::text(out, b", line ")?;
-    lines::count(out, wide(found.line))?;
-    lines::text(out, b", column ")?;
-    lines::count(out, wide(found.column))
+// What a run took and put out.
+#[derive(Clone, Copy)]
+struct Taken(Report);
+
+impl fmt::Display for Taken {
+    fn fmt<W: fmt::Write>(&self, f: &mut fmt::Formatter<W>) -> fmt::Result {
+        let units = Count(self.0.units, "unit");
+        let bindings = Count(self.0.bindings, "binding");
+        let cells = Count(self.0.cells, "cell");
+        let numbers = Count(self.0.numbers, "number");
+        write!(f, "{units}: {bindings}, {cells}, {numbers}")
+    }
+}
+
+// A place of a text.
+#[derive(Clone, Copy)]
+struct Place(Spot);
+
+impl Place {
+    fn find(text: &[u8], at: usize) -> Place {
+        Place(spots::spot_at(text, at))
+    }
+}
+
+impl fmt::Display for Place {
+    fn fmt<W: fmt::Write>(&self, f: &mut fmt::Formatter<W>) -> fmt::Result {
+        let Spot {
+            line,
+            column,
+            place,
+            ..
+        } = self.0;
+        write!(f, "byte {place}, line {line}, column {column}")
+    }
+}
+
+fn say_row(out: &mut impl Write, row: &[u8]) -> io::Result<()> {
+    write!(out, "\n  ")?;
+    out.write_all(row)
 }
 
 // The line, and the caret under the place.
 fn say_rows(out: &mut impl Write, text: &[u8], at: usize) -> io::Result<()> {
-    let mut row = [0u8; 128];
-    let line_length = spots::line_shown(text, at, &mut row);
-    lines::text(out, b"\n  ")?;
-    lines::text(out, &row[..line_length])?;
-    let caret_length = spots::caret_shown(text, at, &mut row);
-    lines::text(out, b"\n  ")?;
-    lines::text(out, &row[..caret_length])
+    let mut row = [0u8; ROW];
+    let length = spots::line_shown(text, at, &mut row);
+    say_row(out, &row[..length])?;
+    let length = spots::caret_shown(text, at, &mut row);
+    say_row(out, &row[..length])
 }
 
-// LENGTH, LIMIT and TABLE, 1 to 3, have no line.
+fn has_place(answer: Answer) -> bool {
+    !matches!(
+        answer,
+        Answer::Done | Answer::Length | Answer::Limit | Answer::Table
+    )
+}
+
 fn say_why(out: &mut impl Write, text: &[u8], limits: Limits, answer: Answer) -> io::Result<()> {
+    let name = name(answer);
     let number = answers::number_of(answer);
-    let at = index(answers::place_of(answer));
-    say_name(out, answer)?;
-    lines::text(out, b" (")?;
-    lines::count(out, number)?;
-    lines::text(out, b")")?;
-    if 3 < number {
-        say_place(out, text, at)?;
+    write!(out, "{name} ({number})")?;
+    if has_place(answer) {
+        let at = answers::place_of(answer) as usize;
+        write!(out, " at {}", Place::find(text, at))?;
         say_rows(out, text, at)?;
     }
-    lines::text(out, b"\n")?;
+    writeln!(out)?;
     say_sentence(out, text, limits, answer)?;
-    lines::text(out, b"\n")
+    writeln!(out)
 }
 
-// What a run took and put out.
-fn say_taken(out: &mut impl Write, report: Report) -> io::Result<()> {
-    lines::text(out, b" after ")?;
-    say_count(out, report.units, b" unit")?;
-    lines::text(out, b": ")?;
-    say_count(out, report.bindings, b" binding")?;
-    lines::text(out, b", ")?;
-    say_count(out, report.cells, b" cell")?;
-    lines::text(out, b", ")?;
-    say_count(out, report.numbers, b" number")?;
-    lines::text(out, b"\n")
-}
-
-// The refusals are 1 to 10, and the stops are above them.
 fn say(
     out: &mut impl Write,
     text: &[u8],
@@ -88,26 +108,23 @@ fn say(
     output: &[i64],
 ) -> io::Result<()> {
     let answer = report.answer;
-    let number = answers::number_of(answer);
-    if 1 <= number && number <= 10 {
-        lines::text(out, b"refused: ")?;
-        say_why(out, text, limits, answer)?;
-        return Ok(());
+    if runner::is_refusal(answer) {
+        write!(out, "refused: ")?;
+        return say_why(out, text, limits, answer);
     }
     lines::number_lines(out, output, report.numbers)?;
-    if number == 0 {
-        lines::text(out, b"done")?;
-    } else {
-        lines::text(out, b"stopped: ")?;
-        say_why(out, text, limits, answer)?;
-        lines::text(out, b"stopped")?;
+    let taken = Taken(report);
+    if let Answer::Done = answer {
+        return writeln!(out, "done after {taken}");
     }
-    say_taken(out, report)
+    write!(out, "stopped: ")?;
+    say_why(out, text, limits, answer)?;
+    writeln!(out, "stopped after {taken}")
 }
 
 // Runs a script within limits, and says what came of it.
 pub fn explain(out: &mut impl Write, text: &[u8], limits: Limits) -> io::Result<()> {
-    let mut output = [0i64; 4096];
+    let mut output = [0i64; MOST_NUMBERS];
     let report = runner::run(text, limits, &mut output);
     say(out, text, limits, report, &output)
 }

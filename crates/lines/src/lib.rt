@@ -1,58 +1,63 @@
-// What the programs read and print: bytes from an input, and bytes and numbers to an output.
+// What the programs read and print: bytes and lines from an input, and numbers and tallies to an output.
 
 #![tactic(auto)]
 
-ghost use Rattle.std.specs.Prelude.{IfOk, ◌≤◌, length};
+ghost use Rattle.std.specs.Prelude.{IfOk, ◌≡◌, ◌≤◌, ◌+◌, ◌%◌, ◌^◌, cond, length};
 
-use std::io;
 use std::io::{Read, Write};
+use std::{fmt, io};
 
 // Reads until `bytes` is full or the input ends, and answers how many bytes now stand at its start.
 pub fn read_full(input: &mut impl Read, bytes: &mut [u8]) -> io::Result<usize>
     ensures { IfOk result (λ n. n ≤ length bytes.new) }
 {
     let mut done = 0;
+    // Kept: how much a read gets is known only from it, so no range counts the turns.
     while done < bytes.len() {
-        let n = input.read(&mut bytes[done..])?;
-        if n == 0 {
-            break;
+        match input.read(&mut bytes[done..])? {
+            0 => break,
+            n => done += n,
         }
-        done += n;
     }
     Ok(done)
 }
 
-pub fn text(out: &mut impl Write, bytes: &[u8]) -> io::Result<()> {
-    out.write_all(bytes)
-}
-
-pub fn count(out: &mut impl Write, n: u64) -> io::Result<()> {
-    write!(out, "{n}")
-}
-
-// A number with its sign: a negative one's size is what its word lacks of 2^64.
-pub fn number(out: &mut impl Write, n: i64) -> io::Result<()> {
-    let word = amounts::to_word(n);
-    if n < 0 {
-        text(out, b"-")?;
-        count(out, std::num::wrapping_sub_u64(0, word))
-    } else {
-        count(out, word)
-    }
+// The next line, its end among its N bytes: none where the input ends before.
+pub fn next_line<const N: usize>(input: &mut impl Read) -> io::Result<Option<[u8; N]>> {
+    let mut line = [0u8; N];
+    let is_whole = read_full(input, &mut line)? == N;
+    Ok(is_whole.then_some(line))
 }
 
 // The first `count` numbers, or all where there are fewer, each on a line of its own.
 pub fn number_lines(out: &mut impl Write, numbers: &[i64], count: u64) -> io::Result<()> {
-    let mut left = count;
-    let mut i: usize = 0;
-    while i < numbers.len() {
-        if left == 0 {
-            return Ok(());
-        }
-        number(out, numbers[i])?;
-        text(out, b"\n")?;
-        left -= 1;
-        i += 1;
+    for number in numbers.iter().take(count as usize) {
+        writeln!(out, "{number}")?;
     }
     Ok(())
+}
+
+// How many cases were tried, and how many agree.
+#[derive(Clone, Copy, Debug, Default, PartialEq, Eq)]
+pub struct Tally {
+    pub tried: u64,
+    pub agree: u64,
+}
+
+impl Tally {
+    // One more case was tried. Both counts wrap.
+    pub fn count(&mut self, agrees: bool)
+        ensures tried { self.new.tried ≡ (self.old.tried + 1) % 2 ^ 64 }
+        ensures agree { self.new.agree ≡ (self.old.agree + cond agrees 1 0) % 2 ^ 64 }
+    {
+        self.tried = self.tried.wrapping_add(1);
+        self.agree = self.agree.wrapping_add(u64::from(agrees));
+    }
+}
+
+impl fmt::Display for Tally {
+    fn fmt<W: fmt::Write>(&self, f: &mut fmt::Formatter<W>) -> fmt::Result {
+        let Tally { tried, agree } = *self;
+        write!(f, "{agree} of {tried} agree")
+    }
 }

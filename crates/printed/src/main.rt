@@ -8,53 +8,38 @@
 use std::io;
 use std::io::{Read, Write};
 
-fn next_line(input: &mut impl Read, line: &mut [u8; 40]) -> io::Result<bool> {
-    Ok(lines::read_full(input, line)? == 40)
-}
+// A script's first line, and where its title begins.
+const LINE: usize = 40;
 
-fn say_title(out: &mut impl Write, line: &[u8]) -> io::Result<()> {
-    if 40 <= line.len() {
-        lines::text(out, &line[8..40])?;
-    }
-    Ok(())
-}
+const TITLE: usize = 8;
+
+// Room for a script, its line end and more.
+const ROOM: usize = 16_400;
+
+// No more scripts are printed.
+const MOST_SCRIPTS: u64 = 1_000;
 
 fn print_next(
     input: &mut impl Read,
     out: &mut impl Write,
-    line: &[u8],
-    text: &mut [u8],
+    line: &[u8; LINE],
+    text: &mut [u8; ROOM],
 ) -> io::Result<()> {
-    let length = cases::read_script(input, text, cases::count_at(line, 0) as usize, 0)?;
-    say_title(out, line)?;
-    if length <= text.len() {
-        printing::run_and_print(out, &text[0..length])?;
-    }
-    Ok(())
+    let [length] = cases::columns::<1>(line);
+    let length = cases::read_script(input, text, length as usize)?.unwrap_or(0);
+    out.write_all(&line[TITLE..])?;
+    printing::run_and_print(out, &text[..length])
 }
 
-fn print_in(
-    input: &mut impl Read,
-    out: &mut impl Write,
-    line: &[u8; 40],
-    text: &mut [u8; 16400],
-) -> io::Result<()> {
-    print_next(input, out, line, text)
-}
-
-// No more than a thousand scripts.
 fn main(rt: HostRuntime) -> io::Result<()> {
     let mut input = rt.stdin();
     let mut out = rt.stdout();
-    let mut line = [0u8; 40];
-    let mut text = [0u8; 16400];
-    let mut left: u64 = 1_000;
-    while 0 < left {
-        if !next_line(&mut input, &mut line)? {
-            return Ok(());
-        }
-        print_in(&mut input, &mut out, &line, &mut text)?;
-        left -= 1;
+    let mut text = [0u8; ROOM];
+    for _ in 0..MOST_SCRIPTS {
+        let Some(line) = lines::next_line::<LINE>(&mut input)? else {
+            break;
+        };
+        print_next(&mut input, &mut out, &line, &mut text)?;
     }
     Ok(())
 }

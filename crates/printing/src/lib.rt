@@ -2,58 +2,47 @@
 
 #![tactic(auto)]
 
-use answers::Report;
-use std::io;
+use answers::{Answer, Report};
 use std::io::Write;
-
-// The refusals are 1 to 10.
-const FIRST_REFUSAL: u64 = 1;
-
-const LAST_REFUSAL: u64 = 10;
-
-// The one answer that names two places.
-const UNSET: u64 = 27;
+use std::{fmt, io};
 
 // The most numbers that a run may put out.
 const MOST_NUMBERS: usize = 4096;
 
-fn print_refusal(out: &mut impl Write, number: u64, place: u64) -> io::Result<()> {
-    lines::text(out, b"refused ")?;
-    lines::count(out, number)?;
-    lines::text(out, b" at ")?;
-    lines::count(out, place)?;
-    lines::text(out, b"\n")
-}
+// A script's last line, and its only one where it is refused.
+#[derive(Clone, Copy)]
+struct LastLine(Report);
 
-fn print_end(out: &mut impl Write, number: u64, place: u64, report: Report) -> io::Result<()> {
-    lines::text(out, b"end ")?;
-    lines::count(out, number)?;
-    lines::text(out, b" at ")?;
-    lines::count(out, place)?;
-    lines::text(out, b" units ")?;
-    lines::count(out, report.units)?;
-    lines::text(out, b" bindings ")?;
-    lines::count(out, report.bindings)?;
-    lines::text(out, b" cells ")?;
-    lines::count(out, report.cells)?;
-    if number == UNSET {
-        let answer = report.answer;
-        lines::text(out, b" made at ")?;
-        lines::count(out, answers::made_of(answer))?;
+impl fmt::Display for LastLine {
+    fn fmt<W: fmt::Write>(&self, f: &mut fmt::Formatter<W>) -> fmt::Result {
+        let Report {
+            answer,
+            units,
+            bindings,
+            cells,
+            ..
+        } = self.0;
+        let number = answers::number_of(answer);
+        let place = answers::place_of(answer);
+        if runner::is_refusal(answer) {
+            return write!(f, "refused {number} at {place}");
+        }
+        write!(
+            f,
+            "end {number} at {place} units {units} bindings {bindings} cells {cells}"
+        )?;
+        if let Answer::Unset(_, made) = answer {
+            write!(f, " made at {made}")?;
+        }
+        Ok(())
     }
-    lines::text(out, b"\n")
 }
 
 fn print(out: &mut impl Write, report: Report, output: &[i64]) -> io::Result<()> {
-    let answer = report.answer;
-    let number = answers::number_of(answer);
-    let place = answers::place_of(answer);
-    if FIRST_REFUSAL <= number && number <= LAST_REFUSAL {
-        print_refusal(out, number, place)
-    } else {
+    if !runner::is_refusal(report.answer) {
         lines::number_lines(out, output, report.numbers)?;
-        print_end(out, number, place, report)
     }
+    writeln!(out, "{}", LastLine(report))
 }
 
 // Runs a script with the limits that document 01 gives a program, and prints.

@@ -2,12 +2,11 @@
 use mathlib.Core.Path.{◌≡◌}
 use mathlib.Core.Bool.{Bool, true, false, cond}
 use mathlib.Core.List.{List, [], ◌∷◌}
-use Prim.Native.Nat.{ℕ, zero, suc, ◌+◌, ◌-◌, ◌≤◌, ◌<◌, min}
+use Prim.Native.Nat.{ℕ, zero, suc, ◌+◌, ◌-◌, ◌≤◌, min}
 use native.Mathlib.Numerals.{add-one}
 use native.Mathlib.Omega.{arith}
 use lib.Dec.{eqb}
-use lib.ListN.{length, drop, get_or, length-drop, drop_of_length-le}
-use lib.Seq.{drop-cons}
+use lib.ListN.{length, drop, get_or, length-drop}
 use borrow.Author.Tests.{eq-eqb, ne_eqb}
 use Rattle.spots.specs.declared.Spot.{Spot}
 use Rattle.spots.specs.Lines.{ends_before, start_of, before_end, end_of, spot_of}
@@ -24,18 +23,6 @@ module _ (text : List ℕ) (i : ℕ) where
 
   pub starts_before : (get_or text i 0 ≡ 10 → ⊥) → start_of text (i + 1) ≡ start_of text i
   starts_before e = rw add-one (simp (ne_eqb (get_or text i 0) 10 e))
-
-  pub end_here : i < length text → get_or text i 0 ≡ 10 → end_of text i ≡ i
-  end_here h e = rw (drop-cons text i 0 h) (simp (eq-eqb (get_or text i 0) 10 e) (omega arith))
-
-  pub end_further : i < length text → (get_or text i 0 ≡ 10 → ⊥) → end_of text (i + 1) ≡ end_of text i
-  end_further h e =
-      let l : before_end (drop i text) ≡ suc (before_end (drop (i + 1) text)) =
-      rw (drop-cons text i 0 h, add-one) (simp (ne_eqb (get_or text i 0) 10 e)) in
-      omega (arith, l)
-
-  pub end_past : length text ≤ i → end_of text i ≡ i
-  end_past h = rw (drop_of_length-le text {i = i} h) (omega arith)
 
 -- ---- a line starts at or before its place, and ends from it on and within the text
 start_or : (t : Bool) (p s : ℕ) → s ≤ p → cond t (suc p) s ≤ suc p

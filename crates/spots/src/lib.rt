@@ -7,10 +7,8 @@ ghost use Rattle.spots.specs.Lines.{ends_before, start_of, end_of, spot_of};
 ghost use Rattle.spots.specs.Shown.{shown, under, drawn, part, from_of, to_of, marks, line_shown, caret_shown};
 ghost use Rattle.spots.specs.Written.{Added, Written};
 
-use limits::less_of;
-
 // A place: its line and its column, both counted from 1, the column in bytes; and where the line starts and ends. LF ends a line and is no part of it.
-#[derive(Clone, Copy)]
+#[derive(Clone, Copy, Debug, PartialEq, Eq)]
 pub struct Spot {
     pub line: usize,
     pub column: usize,
@@ -31,42 +29,38 @@ fn line_begin(text: &[u8], place: usize) -> Begun
     requires { place ≤ length text.now }
     ensures { (result.ended ≡ ends_before text.now place) × (result.start ≡ start_of text.now place) }
 {
-    let mut ended: usize = 0;
-    let mut start: usize = 0;
-    let mut i: usize = 0;
-    while i < place {
+    let mut ended = 0;
+    let mut start = 0;
+    for i in 0..place {
         if text[i] == b'\n' {
             ended += 1;
             start = i + 1;
         }
-        i += 1;
     }
     Begun { ended, start }
 }
 
 fn line_end(text: &[u8], place: usize) -> usize
+    requires { place ≤ length text.now }
     ensures { result ≡ end_of text.now place }
 {
-    let mut end = place;
-    while end < text.len() {
+    for end in place..text.len() {
         if text[end] == b'\n' {
             return end;
         }
-        end += 1;
     }
-    end
+    text.len()
 }
 
 // A place past the text counts as its end.
 pub fn spot_at(text: &[u8], at: usize) -> Spot
     ensures { result ≡ spot_of text.now at }
 {
-    let place = less_of(at, text.len());
-    let before = line_begin(text, place);
-    let start = before.start;
+    let place = at.min(text.len());
+    let Begun { ended, start } = line_begin(text, place);
     let end = line_end(text, place);
     Spot {
-        line: before.ended + 1,
+        line: ended + 1,
         column: place - start + 1,
         place,
         start,
@@ -80,25 +74,13 @@ const REACH: usize = 60;
 fn shown_from(start: usize, place: usize) -> usize
     ensures { result ≡ from_of start place }
 {
-    if place <= REACH {
-        return start;
-    }
-    if place - REACH <= start {
-        return start;
-    }
-    place - REACH
+    start.max(place.saturating_sub(REACH))
 }
 
 fn shown_to(place: usize, end: usize) -> usize
     ensures { result ≡ to_of place end }
 {
-    if end <= place {
-        return end;
-    }
-    if end - place <= REACH {
-        return end;
-    }
-    place + REACH
+    end.min(place.saturating_add(REACH))
 }
 
 // The line itself, and the line under it with the caret.
@@ -112,29 +94,19 @@ enum Row {
 fn shown(b: u8) -> u8
     ensures { result ≡ shown b }
 {
-    if b == b'\t' {
-        return b;
+    match b {
+        b'\t' => b,
+        b'\r' => b' ',
+        b' '..=b'~' => b,
+        _ => b'?',
     }
-    if b == b'\r' {
-        return b' ';
-    }
-    if b < b' ' {
-        return b'?';
-    }
-    if b'~' < b {
-        return b'?';
-    }
-    b
 }
 
 // Before the caret a tab stands under a tab, so that any width of tabs will do.
 fn under(b: u8) -> u8
     ensures { result ≡ under b }
 {
-    if b == b'\t' {
-        return b'\t';
-    }
-    b' '
+    if b == b'\t' { b'\t' } else { b' ' }
 }
 
 fn drawn(row: Row, b: u8) -> u8
@@ -172,10 +144,8 @@ fn draw(text: &[u8], from: usize, to: usize, row: Row, out: &mut [u8], n: usize)
     ensures { Added n out.old (map (drawn row) (part text.now from to)) result out.new }
 {
     let mut m = n;
-    let mut i = from;
-    while i < to {
+    for i in from..to {
         m = add(out, m, drawn(row, text[i]));
-        i += 1;
     }
     m
 }

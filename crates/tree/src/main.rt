@@ -6,45 +6,39 @@ use answers::Answer;
 use std::io;
 use std::io::Write;
 
-fn print_word(out: &mut impl Write, word: u64) -> io::Result<()> {
-    writeln!(out, "{word:016x}")
-}
+// One byte more than a script may have, so that a longer one is refused.
+const ROOM: usize = 16_384 + 1;
+
+// The most words that a tree, or a script, may have.
+const MOST_WORDS: usize = 4096;
 
 // The words up to the zeros behind the tree: no node's word is 0.
 fn print_tree(out: &mut impl Write, tree: &[u64]) -> io::Result<()> {
-    let mut i: usize = 0;
-    while i < tree.len() {
-        if tree[i] == 0 {
-            return Ok(());
-        }
-        print_word(out, tree[i])?;
-        i += 1;
+    for word in tree.iter().take_while(|&&word| word != 0) {
+        writeln!(out, "{word:016x}")?;
     }
     Ok(())
 }
 
-fn print_refusal(out: &mut impl Write, number: u64, place: u64) -> io::Result<()> {
-    writeln!(out, "refused {number} at {place}")
-}
-
 fn print(out: &mut impl Write, answer: Answer, tree: &[u64]) -> io::Result<()> {
-    let number = answers::number_of(answer);
-    if number == 0 {
-        print_tree(out, tree)
-    } else {
-        print_refusal(out, number, answers::place_of(answer))
+    match answer {
+        Answer::Done => print_tree(out, tree),
+        _ => {
+            let number = answers::number_of(answer);
+            let place = answers::place_of(answer);
+            writeln!(out, "refused {number} at {place}")
+        }
     }
 }
 
 fn main(rt: HostRuntime) -> io::Result<()> {
-    // one byte more than a script may have, so that a longer one is refused
-    let mut text = [0u8; 16385];
+    let mut text = [0u8; ROOM];
     let length = lines::read_full(&mut rt.stdin(), &mut text)?;
-    let mut tree = [0u64; 4096];
-    let mut words = [0u64; 4096];
-    let mut stack = [0u64; 4097];
-    let mut scopes = [0u64; 4096];
-    let mut notes = [0u64; 4096];
+    let mut tree = [0u64; MOST_WORDS];
+    let mut words = [0u64; MOST_WORDS];
+    let mut stack = [0u64; MOST_WORDS + 1];
+    let mut scopes = [0u64; MOST_WORDS];
+    let mut notes = [0u64; MOST_WORDS];
     let verdict = verdict::check(
         &text[..length],
         &mut tree,

@@ -1,5 +1,6 @@
--- It ends: fewer cases are left at each turn.
+-- The script stands in its room.
+use Rattle.std.proofs.Common.{length, ◌≤◌}
 use Rattle.cases.proofs.try_all.Given as goal
 
-abbrev pub decreases-loop-left : goal.decreases-loop-left
-decreases-loop-left g l = l.left
+abbrev pub invariant-loop : goal.invariant-loop
+invariant-loop g l = l.length ≤ length l.text

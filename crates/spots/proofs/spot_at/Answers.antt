@@ -5,13 +5,13 @@ use Rattle.spots.proofs.spot_at.Goals as goal
 
 pub overflow_add-result : goal.overflow_add-result
 overflow_add-result c =
-    omega (arith, ends_le c.args.text.now c.less_of-place.result)
+    omega (arith, ends_le c.args.text.now c.min-place.result)
 
 pub overflow_sub-result : goal.overflow_sub-result
 overflow_sub-result c =
-    omega (arith, start_le c.args.text.now c.less_of-place.result)
+    omega (arith, start_le c.args.text.now c.min-place.result)
 
 pub returns : goal.returns
 returns c =
-    spot_made c.args.text.now c.args.at c.less_of-place.result c.line_begin-before.result.ended c.line_begin-before.result.start
-    c.line_end-end.result c.less_of-place.ensures c.line_begin-before.ensures.0 c.line_begin-before.ensures.1 c.line_end-end.ensures
+    spot_made c.args.text.now c.args.at c.min-place.result c.line_begin-ended.result.ended c.line_begin-ended.result.start
+    c.line_end-end.result c.min-place.ensures c.line_begin-ended.ensures.0 c.line_begin-ended.ensures.1 c.line_end-end.ensures

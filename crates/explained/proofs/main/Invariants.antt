@@ -1,5 +1,0 @@
--- It ends: fewer scripts are left at each turn.
-use Rattle.explained.proofs.main.Given as goal
-
-abbrev pub decreases-loop-left : goal.decreases-loop-left
-decreases-loop-left l = l.left
