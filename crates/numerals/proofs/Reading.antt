@@ -6,14 +6,12 @@ use Prim.Native.Nat.{ℕ, ◌+◌, ◌-◌, ◌*◌, ◌≤◌, ◌<◌, min}
 use native.Mathlib.Numerals.{add-one}
 use native.Mathlib.Omega.{arith}
 use lib.Dec.{T, leb}
-use lib.ListN.{length, take, drop, get_or, drop_of_length-le}
+use lib.ListN.{length, drop, get_or, drop_of_length-le}
 use lib.Seq.{drop-cons}
 use borrow.Author.Tests.{leb-true, leb-false}
 use Rattle.language.specs.Numbers.{ranged}
 use Rattle.language.specs.Words.{is_digit, stretch, decimal}
-use Rattle.std.specs.Prelude.{None, take_while, fold}
-use Rattle.std.specs.Char.{is_ascii_digit}
-use Rattle.std.proofs.lemmas.List.Sums.{take_while-cons}
+use Rattle.std.specs.Prelude.{None}
 use Rattle.amounts.specs.Amounts.{Amount, computed}
 use Rattle.amounts.specs.Signs.{signed}
 use Rattle.numerals.specs.Written.{written, numeral_to, cap, written_from}
@@ -52,22 +50,39 @@ kept_decimal (d ∷ ds) n =
     ∙ ap (λ (m : ℕ). min (decimal m ds) cap) (kept_step n (d - 48))
     ∙ kept_decimal ds (n * 10 + (d - 48))
 
--- ---- the digits, one at a time, each kept at the cap
-pub folded : (ds : List ℕ) → fold (λ v b. min (v * 10 + (b - 48)) cap) 0 ds ≡ min (decimal 0 ds) cap
-folded ds = go ds 0 (omega arith)
-  where
-    go : (ds : List ℕ) (n : ℕ) → n ≤ cap → fold (λ v b. min (v * 10 + (b - 48)) cap) n ds ≡ min (decimal n ds) cap
-    go [] n h = omega arith
-    go (d ∷ ds) n h = go ds (min (n * 10 + (d - 48)) cap) (omega arith) ∙ kept_decimal ds (n * 10 + (d - 48))
+-- ---- the loop: the first i bytes are digits and write v, and what is left gives the same answer
+pub record Reading (s : List ℕ) (i v : ℕ) : Type 0 where
+  pub end : i + length (stretch is_digit (drop i s)) ≡ length (stretch is_digit s)
+  pub small : v ≤ cap
+  pub same : min (decimal v (stretch is_digit (drop i s))) cap ≡ min (decimal 0 (stretch is_digit s)) cap
 
--- ---- a stretch, as the library takes it
-pub stretch_taken : (p : ℕ → Bool) (s : List ℕ) → take_while p s ≡ stretch p s
-stretch_taken p [] = refl
-stretch_taken p (b ∷ s) = take_while-cons p b s ∙ ap (λ l. cond (p b) (b ∷ l) []) (stretch_taken p s)
+pub first : (s : List ℕ) → Reading s 0 0
+first s = record { end = omega arith; small = omega arith; same = refl }
 
-pub digits_taken : (s : List ℕ) → take_while (λ b. is_ascii_digit b) s ≡ stretch is_digit s
-digits_taken s = stretch_taken is_digit s
+module _ (s : List ℕ) (i v : ℕ) (r : Reading s i v) where
+  pub more : i < length s → is_digit (get_or s i 0) ≡ true → Reading s (i + 1) (min (v * 10 + (get_or s i 0 - 48)) cap)
+  more h d =
+      let e = stretch_goes is_digit s i h d in
+      record {
+        end = omega (arith, r.end, ap length e);
+        small = omega arith;
+        same =
+            kept_decimal (stretch is_digit (drop (i + 1) s)) (v * 10 + (get_or s i 0 - 48))
+            ∙ sym (ap (λ (l : List ℕ). min (decimal v l) cap) e)
+            ∙ r.same;
+      }
 
+  -- where no digit is left
+  module _ (e : stretch is_digit (drop i s) ≡ []) where
+    pub count : i ≡ length (stretch is_digit s)
+    count = omega (arith, r.end, ap length e)
+
+    pub value : v ≡ min (decimal 0 (stretch is_digit s)) cap
+    value =
+        let q : min (decimal v (stretch is_digit (drop i s))) cap ≡ min v cap = ap (λ (l : List ℕ). min (decimal v l) cap) e in
+        omega (arith, r.same, r.small, q)
+
+-- ---- a stretch is no longer than what it is the front of
 pub taken_long : (p : ℕ → Bool) (s : List ℕ) → length (stretch p s) ≤ length s
 taken_long p [] = omega arith
 taken_long p (b ∷ s) = by (p b) (taken_long p s)
@@ -75,14 +90,6 @@ taken_long p (b ∷ s) = by (p b) (taken_long p s)
     by : (t : Bool) → length (stretch p s) ≤ length s → length (cond t (b ∷ stretch p s) []) ≤ length (b ∷ s)
     by true h = omega (arith, h)
     by false h = omega arith
-
-pub take_stretch : (p : ℕ → Bool) (s : List ℕ) → take (length (stretch p s)) s ≡ stretch p s
-take_stretch p [] = refl
-take_stretch p (b ∷ s) = by (p b) (take_stretch p s)
-  where
-    by : (t : Bool) → take (length (stretch p s)) s ≡ stretch p s → take (length (cond t (b ∷ stretch p s) [])) (b ∷ s) ≡ cond t (b ∷ stretch p s) []
-    by true h = ap (λ l. b ∷ l) h
-    by false h = refl
 
 -- ---- the answer
 written_kept : (a : Amount) (negative : Bool) (n : ℕ) → computed a ≡ ranged (signed negative (min n cap)) → a ≡ written (signed negative n)
