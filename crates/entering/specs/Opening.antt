@@ -1,5 +1,5 @@
 -- What entries, calls and definitions answer, in the evaluator's terms.
-use Rattle.std.specs.Prelude.{ℕ, ◌-◌, List, eqb, Result}
+use Rattle.std.specs.Prelude.{◌≡◌, ℕ, ◌-◌, List, eqb, Result}
 use Rattle.machine.specs.declared.Cell.{Cell}
 use Rattle.nodes.specs.declared.Node.{Node}
 use Rattle.nodes.specs.Nodes.{node_at}
@@ -26,10 +26,10 @@ opened e b = record { env = e; bindings = b }
 abbrev pub entered_ending : Result Entered End → Ending
 entered_ending r = ending (λ x. Value x.env x.body) r
 
--- the kind of the node that makes the call: an application, or a CALL
-abbrev pub form_number : Form → ℕ
-form_number Application = 23
-form_number Call = 12
+-- the numbers that stand for a form: 23, the kind of its node, for an application, and every other for a CALL
+abbrev pub StandsFor : ℕ → Form → Type 0
+StandsFor f Application = f ≡ 23
+StandsFor f Call = f ≡ 23 → ⊥
 
 -- a cell made at the place p, which is not set
 abbrev pub fresh_cell : (p : ℕ) → Cell

@@ -14,7 +14,8 @@ use Rattle.machine.specs.State.{Run, Tables, Ret, is, valued, on_value, and_then
 use Rattle.machine.specs.Machine.{on_bit, below, level}
 use Rattle.machine.proofs.Members.{below_level}
 use Rattle.entering.specs.Opening.{guarded}
-use Rattle.stores.proofs.Laws.{NoValue, not_value}
+use Rattle.stores.specs.declared.End.TheVariants as E
+use Rattle.stores.proofs.Laws.{NoValue, not_value, end_no_value}
 use Rattle.entering.proofs.Laws.{stop_no_value, same_word}
 use Rattle.running.specs.Lent.{round_tag}
 use Rattle.stores.specs.Choices.{is_bit, bit_answer, branch_of, round_end}
@@ -46,6 +47,31 @@ follow r k l h = by r.ending
     by (Unset p q) = refl
     by (Returned t x) = refl
     by NoRule = refl
+
+-- every value of r is v
+abbrev pub Only : (v : Ending) → Ret → Type 0
+Only v r = (t x : ℕ) → r.ending ≡ Value t x → Value t x ≡ v
+
+pub only_then : (v : Ending) (r : Ret) (k : ℕ → ℕ → Tables → Ret) → ((t x : ℕ) (m : Tables) → Only v (k t x m)) → Only v (and_then r k)
+unfolding and_then
+only_then v r k h = by r.ending
+  where
+    by : (e : Ending) → Only v (on_value e r.after k)
+    by (Value t x) = h t x r.after
+    by (Stop n p) = λ t x q. absurd (end_no_value (E.Stop n p) t x q)
+    by (Unset p o) = λ t x q. absurd (end_no_value (E.Unset p o) t x q)
+    by (Returned u y) = λ t x q. absurd (end_no_value (E.Returned (record { tag = u; word = y })) t x q)
+    by NoRule = λ t x q. absurd (end_no_value E.NoRule t x q)
+
+pub same_tag : (t x u y : ℕ) → Value t x ≡ Value u y → t ≡ u
+same_tag t x u y h = ap tag_in h
+  where
+    tag_in : Ending → ℕ
+    tag_in (Value t x) = t
+    tag_in (Stop n p) = 0
+    tag_in (Unset p q) = 0
+    tag_in (Returned t x) = 0
+    tag_in NoRule = 0
 
 pub valued_one : (e : Ending) (t x : ℕ) → e ≡ Value t x → valued e ≡ 1
 valued_one e t x h = ap valued h

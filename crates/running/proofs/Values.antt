@@ -19,8 +19,8 @@ use Rattle.machine.proofs.Members.{expr_is, args_go}
 use Rattle.entering.specs.Opening.{guarded, opens}
 use Rattle.stores.proofs.Laws.{NoValue, not_value}
 use Rattle.stores.specs.Choices.{is_bit, bit_answer, branch_of, plain_by, plain_value}
-use Rattle.running.specs.Parts.{parts_e, apply_v, parts_at, apply_at, inner_at}
-use Rattle.running.proofs.Laws.{passes, goes, any_value, follow, guard_stops, guard_goes, guard_level, on_one, on_zero, on_branch, not_one, not_zero}
+use Rattle.running.specs.Parts.{parts_e, apply_v, parts_at, apply_at, inner_c, inner_at}
+use Rattle.running.proofs.Laws.{Only, only_then, same_tag, passes, goes, any_value, follow, guard_stops, guard_goes, guard_level, on_one, on_zero, on_branch, not_one, not_zero}
 
 -- `and` goes on after a 1, and `or` after a 0
 module _ (g : Run) (S : Evaluators) (env sp : ℕ) (n : Node) (m : Tables) where
@@ -261,6 +261,16 @@ module _ (g : Run) (d env sp : ℕ) (m : Tables) (n : Node) where
           pub apply_runs : (f ≡ 23 → ⊥) → s ≡ inner_at g 7 d env sp ρ j q.after → s ≡ apply_at g f d env sp tag word n m
           unfolding apply_v pick
           apply_runs h s-is = s-is ∙ sym (rw (← first_is, ← r-is, goes r t k found _, ← q-is, goes q ρ j opened _, ne_eqb f 23 h))
+
+-- what is called and comes to a value is done, in the names that were in force
+module _ (g : Run) (f : ℕ) (call : f ≡ 23 → ⊥) (d env sp tag word : ℕ) (n : Node) (m : Tables) where
+  call_answers : Only (Value 7 env) (apply_at g f d env sp tag word n m)
+  unfolding apply_v inner_c pick
+  call_answers = rw (ne_eqb f 23 call) (only_then _ _ _ λ _ k m₁. only_then _ _ _ λ ρ i m₂. only_then _ _ _ λ _ _ m₃ t x is_value. sym is_value)
+
+  pub call_done : (t x : ℕ) (after : Tables) → is (Value t x) after ≡ apply_at g f d env sp tag word n m →
+      is (Value 7 x) after ≡ apply_at g f d env sp tag word n m
+  call_done t x after came = ap (λ k. is (Value k x) after) (sym (same_tag t x 7 env (call_answers t x (ap (λ (r : Ret). r.ending) (sym came))))) ∙ came
 
 -- ---- a function's body
 

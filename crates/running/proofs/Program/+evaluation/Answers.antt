@@ -1,14 +1,19 @@
 -- The functions of the evaluator meet their contracts: one induction over the levels left.
-use mathlib.Core.Path.{refl, ◌∙◌}
-use Prim.Native.Nat.{suc, ◌-◌}
+use mathlib.Core.Path.{◌≡◌, refl, subst, ◌∙◌}
+use Prim.Native.Nat.{ℕ, suc, ◌-◌}
 use native.Mathlib.Omega.{arith}
 use Rattle.machine.specs.declared.Ending.TheVariants.{Value}
 use Rattle.stores.proofs.Laws.{exit, end_no_value}
 use Rattle.running.proofs.Blocks.{alloc_goes, alloc_passes, len_goes, len_passes, nth_goes, nth_passes, nth_passes_2, vset_goes, vset_passes, vset_passes_2, vset_passes_3}
 use Rattle.running.proofs.Commands.{block_ends, block_goes_on, block_passes, block_start, call_applies, call_none, cmd_call, cmd_const, cmd_echo, cmd_if, cmd_plain, cmd_return, cmd_rounds, cmd_set, cmd_stops, const_binds, const_passes, echo_goes, echo_passes, if_stat_goes, if_stat_none, if_stat_passes, inner_ends, inner_passes, return_goes, return_passes, round_ends, round_goes, round_passes, round_stops, rounds_end, rounds_go_on, rounds_pass, rounds_start, set_none, set_passes, set_stores}
 use Rattle.running.proofs.Laws.{once_more, not_again, over}
-use Rattle.running.proofs.Values.{apply_evaluates, apply_passes, apply_runs, apply_stops, args_end, args_keep, args_pass, args_start, body_evaluates, body_runs, call_goes, call_passes, expr_alloc, expr_and, expr_call, expr_if, expr_len, expr_nth, expr_operator, expr_or, expr_plain, expr_stops, expr_vset, if_goes, if_none, if_passes, operator_many, operator_one, operator_passes, operator_passes_2, operator_passes_3, operator_two, parts_end, parts_go, parts_pass}
+use Rattle.running.proofs.Values.{apply_evaluates, apply_passes, apply_runs, apply_stops, args_end, args_keep, args_pass, args_start, body_evaluates, body_runs, call_done, call_goes, call_passes, expr_alloc, expr_and, expr_call, expr_if, expr_len, expr_nth, expr_operator, expr_or, expr_plain, expr_stops, expr_vset, if_goes, if_none, if_passes, operator_many, operator_one, operator_passes, operator_passes_2, operator_passes_3, operator_two, parts_end, parts_go, parts_pass}
+use Rattle.entering.specs.Opening.{StandsFor}
 use Rattle.running.proofs.Program.+evaluation.Goals as goal
+
+-- a CALL's node is no application's
+no_application : ◌≡◌ {A = ℕ} 12 23 → ⊥
+no_application h = omega (arith, h)
 
 pub alloc-returns-in_err-size-clause-came : goal.alloc-returns-in_err-size-clause-came
 alloc-returns-in_err-size-clause-came t c =
@@ -24,19 +29,31 @@ application-returns-in_err-head-clause-came t c =
 
 pub application-returns-clause-came : goal.application-returns-clause-came
 application-returns-clause-came t c =
-    call_goes _ _ _ _ _ _ _ c.in_ok-head.ensures.came _ _ refl _ c.apply.ensures.came
+    call_goes _ _ _ _ _ _ _ c.in_ok-head.ensures.came _ _ refl _ (c.apply.ensures.came 23 refl)
 
 pub apply-returns-in_err-given-clause-came : goal.apply-returns-in_err-given-clause-came
-apply-returns-in_err-given-clause-came t c =
-    rw (exit _ _ c.from_residual.ensures.1) (apply_passes _ _ _ _ _ _ _ c.next_at-first.ensures _ c.in_err-given.ensures.came _ _ _ (end_no_value _))
+apply-returns-in_err-given-clause-came t c f stands =
+    rw (exit _ _ c.from_residual.ensures.1) (apply_passes _ _ _ _ _ _ _ c.next_at-first.ensures _ c.in_err-given.ensures.came f _ _ (end_no_value _))
 
 pub apply-returns-in_err-entered-clause-came : goal.apply-returns-in_err-entered-clause-came
-apply-returns-in_err-entered-clause-came t c =
-    rw (exit _ _ c.from_residual-in_err-entered.ensures.1) (apply_stops _ _ _ _ _ _ _ c.next_at-first.ensures _ c.in_ok-given.ensures.came _ _ _ _ _ refl _ c.in_err-entered.ensures.came (end_no_value _))
+apply-returns-in_err-entered-clause-came t c f stands =
+    rw (exit _ _ c.from_residual-in_err-entered.ensures.1) (apply_stops _ _ _ _ _ _ _ c.next_at-first.ensures _ c.in_ok-given.ensures.came f _ _ _ _ refl _
+    (c.in_err-entered.ensures.came f stands) (end_no_value _))
 
-pub apply-returns-clause-came : goal.apply-returns-clause-came
-apply-returns-clause-came t c =
-    apply_evaluates _ _ _ _ _ _ _ c.next_at-first.ensures _ c.in_ok-given.ensures.came _ _ _ _ _ refl _ c.in_ok-entered.ensures.came _ _ refl _ refl c.body.ensures.came
+pub apply-returns-in-Application-clause-came : goal.apply-returns-in-Application-clause-came
+apply-returns-in-Application-clause-came t c f stands =
+    apply_evaluates _ _ _ _ _ _ _ c.next_at-first.ensures _ c.in_ok-given.ensures.came f _ _ _ _ refl _ (c.in_ok-entered.ensures.came f stands)
+    _ _ refl _ (subst (StandsFor f) c.in-Application.is stands) c.body.ensures.came
+
+pub apply-returns-in_err-inner-in-Call-clause-came : goal.apply-returns-in_err-inner-in-Call-clause-came
+apply-returns-in_err-inner-in-Call-clause-came t c f stands =
+    rw (exit _ _ c.from_residual-in_err-inner-in-Call.ensures.1) (apply_runs _ _ _ _ _ _ _ c.next_at-first.ensures _ c.in_ok-given.ensures.came f _ _ _ _ refl _
+    (c.in_ok-entered.ensures.came f stands) _ _ refl _ (subst (StandsFor f) c.in-Call.is stands) (c.in_err-inner-in-Call.ensures.came 7 c.args.at.env))
+
+pub apply-returns-in_ok-inner-in-Call-clause-came : goal.apply-returns-in_ok-inner-in-Call-clause-came
+apply-returns-in_ok-inner-in-Call-clause-came t c f stands =
+    apply_runs _ _ _ _ _ _ _ c.next_at-first.ensures _ c.in_ok-given.ensures.came f _ _ _ _ refl _ (c.in_ok-entered.ensures.came f stands)
+    _ _ refl _ (subst (StandsFor f) c.in-Call.is stands) (c.in_ok-inner-in-Call.ensures.came 7 c.args.at.env)
 
 pub argv-loop-node-init : goal.argv-loop-node-init
 argv-loop-node-init t c = (
@@ -115,21 +132,13 @@ pub call-returns-in_err-target-clause-came : goal.call-returns-in_err-target-cla
 call-returns-in_err-target-clause-came t c =
     rw (exit _ _ c.from_residual.ensures.1) (call_none _ _ _ _ _ _ _ c.entry-code.ensures _ c.in_err-target.ensures (end_no_value _))
 
-pub call-returns-in_err-given-clause-came : goal.call-returns-in_err-given-clause-came
-call-returns-in_err-given-clause-came t c =
-    rw (exit _ _ c.from_residual-in_err-given.ensures.1) (call_applies _ _ _ _ _ _ _ c.entry-code.ensures _ c.in_ok-target.ensures _ _ refl _ (apply_passes _ _ _ _ _ _ _ c.next_at-first.ensures _ c.in_err-given.ensures.came _ _ _ (end_no_value _)))
-
-pub call-returns-in_err-entered-clause-came : goal.call-returns-in_err-entered-clause-came
-call-returns-in_err-entered-clause-came t c =
-    rw (exit _ _ c.from_residual-in_err-entered.ensures.1) (call_applies _ _ _ _ _ _ _ c.entry-code.ensures _ c.in_ok-target.ensures _ _ refl _ (apply_stops _ _ _ _ _ _ _ c.next_at-first.ensures _ c.in_ok-given.ensures.came _ _ _ _ _ refl _ c.in_err-entered.ensures.came (end_no_value _)))
-
-pub call-returns-in_err-inner-clause-came : goal.call-returns-in_err-inner-clause-came
-call-returns-in_err-inner-clause-came t c =
-    rw (exit _ _ c.from_residual-in_err-inner.ensures.1) (call_applies _ _ _ _ _ _ _ c.entry-code.ensures _ c.in_ok-target.ensures _ _ refl _ (apply_runs _ _ _ _ _ _ _ c.next_at-first.ensures _ c.in_ok-given.ensures.came _ _ _ _ _ refl _ c.in_ok-entered.ensures.came _ _ refl _ (λ h. omega (arith, h)) (c.in_err-inner.ensures.came 7 c.args.at.env)))
+pub call-returns-in_err-done-clause-came : goal.call-returns-in_err-done-clause-came
+call-returns-in_err-done-clause-came t c =
+    rw (exit _ _ c.from_residual-in_err-done.ensures.1) (call_applies _ _ _ _ _ _ _ c.entry-code.ensures _ c.in_ok-target.ensures _ _ refl _ (c.in_err-done.ensures.came 12 no_application))
 
 pub call-returns-clause-came : goal.call-returns-clause-came
 call-returns-clause-came t c =
-    call_applies _ _ _ _ _ _ _ c.entry-code.ensures _ c.in_ok-target.ensures _ _ refl _ (apply_runs _ _ _ _ _ _ _ c.next_at-first.ensures _ c.in_ok-given.ensures.came _ _ _ _ _ refl _ c.in_ok-entered.ensures.came _ _ refl _ (λ h. omega (arith, h)) (c.in_ok-inner.ensures.came 7 c.args.at.env))
+    call_applies _ _ _ _ _ _ _ c.entry-code.ensures _ c.in_ok-target.ensures _ _ refl _ (call_done _ _ no_application _ _ _ _ _ _ _ _ _ _ (c.in_ok-done.ensures.came 12 no_application))
 
 pub command-returns-then-kind-eq-WHILE-clause-came : goal.command-returns-then-kind-eq-WHILE-clause-came
 command-returns-then-kind-eq-WHILE-clause-came t c =
