@@ -3,12 +3,14 @@ use mathlib.Core.Path.{◌≡◌, refl, sym, ap, ◌∙◌}
 use mathlib.Core.Bool.{Bool, true, false, cond}
 use mathlib.Core.List.{List, [], ◌∷◌, ◌++◌, map, append_assoc, append-nil}
 use mathlib.Core.Option.{Option, none, some}
-use Prim.Native.Nat.{ℕ, zero, suc, ◌-◌, ◌*◌, ◌/◌, ◌≤◌, ◌<◌, min}
+use Prim.Native.Nat.{ℕ, zero, suc, ◌+◌, ◌-◌, ◌*◌, ◌/◌, ◌≤◌, ◌<◌, min}
 use native.Mathlib.Nat.{not-suc-le-zero, le_of_suc-le-suc}
 use native.Mathlib.Omega.{arith}
+use native.Mathlib.Numerals.{add-one}
 use lib.Dec.{ltb}
 use lib.IntN.{ℤ, pos}
-use lib.ListN.{length, get_or, set, take, drop}
+use lib.ListN.{length, get_or, set, take, drop, length-set}
+use lib.Seq.{take_all}
 use borrow.Author.Tests.{leb-true, le-leb, lt-leb, ltb-true, ltb-false}
 use Rattle.purse_model.specs.Journal.{purse_count, Purses, credit, entry, changed, record_bytes, bytes_of, Back, back, read_back}
 use Rattle.purse_model.specs.Purses.{credits, is_some, purse_admits, record_left, wrong_journal, wrong_purse, no_record, credit_made, World, world, Step, store, hand, made, after, stores_from}
@@ -32,6 +34,32 @@ onto_is zero s d h g = refl
 onto_is (suc n) [] d h g = absurd (not-suc-le-zero h)
 onto_is (suc n) (z ∷ s) [] h g = absurd (not-suc-le-zero g)
 onto_is (suc n) (z ∷ s) (x ∷ d) h g = ap (λ (l : List ℤ). z ∷ l) (onto_is n s d (le_of_suc-le-suc h) (le_of_suc-le-suc g))
+
+-- the loop: the first i of the numbers stand in the bank's table, and behind them what it had
+pub record Handing (numbers bank t : List ℤ) (i : ℕ) : Type 0 where
+  pub within : i ≤ length numbers
+  pub long : length t ≡ length bank
+  pub same : t ≡ onto i numbers bank
+
+module _ (numbers bank : List ℤ) where
+  pub handing_first : Handing numbers bank bank 0
+  handing_first = record { within = omega arith; long = refl; same = refl }
+
+  module _ (t : List ℤ) (i : ℕ) (H : Handing numbers bank t i) (fits : length numbers ≤ length bank) where
+    pub handing_more : (z : ℤ) → z ≡ get_or numbers i (pos 0) → i < length numbers → Handing numbers bank (set t i z) (i + 1)
+    handing_more z e q =
+        record {
+          within = omega arith;
+          long = length-set t i z ∙ H.long;
+          same = ap (λ (y : ℤ). set t i y) e ∙ ap (λ (l : List ℤ). set l i (get_or numbers i (pos 0))) H.same ∙ onto_suc numbers bank i q (omega (arith, q, fits)) ∙
+              ap (λ (k : ℕ). onto k numbers bank) (sym (add-one i));
+        }
+
+    pub handing_done : length numbers ≤ i → t ≡ numbers ++ drop (length numbers) bank
+    handing_done q =
+        let e : i ≡ length numbers = omega (arith, H.within) in
+        H.same ∙ ap (λ (k : ℕ). onto k numbers bank) e ∙ onto_is (length numbers) numbers bank (omega arith) fits ∙
+        ap (λ (l : List ℤ). l ++ drop (length numbers) bank) (take_all (length numbers) numbers (omega arith))
 
 -- ---- steps one behind the other
 

@@ -139,7 +139,9 @@ fn hand_on(numbers: &[i64], bank: &mut [i64])
     requires { length numbers.now ≤ length bank.old }
     ensures { bank.new ≡ numbers.now ++ drop (length numbers.now) bank.old }
 {
-    bank[..numbers.len()].copy_from_slice(numbers);
+    for (i, number) in numbers.iter().enumerate() {
+        bank[i] = *number;
+    }
 }
 
 // The first n steps of a call: its record's bytes, the mark last, and then its numbers.
