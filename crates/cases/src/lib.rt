@@ -136,14 +136,16 @@ impl Case {
     }
 }
 
-// The number that a line writes at a column, where there is one within the range.
-pub fn number_at(line: &[u8], at: usize) -> Option<i64> {
-    numerals::number_at(line, at)?.value.ok()
+// The number that a line writes at a column, 0 where there is none within the range.
+pub fn number_at(line: &[u8], at: usize) -> i64 {
+    numerals::number_at(line, at)
+        .and_then(|numeral| numeral.value.ok())
+        .unwrap_or(0)
 }
 
-// The same as a count, 0 where there is none.
+// The same as a count.
 pub fn count_at(line: &[u8], at: usize) -> u64 {
-    number_at(line, at).unwrap_or(0).cast_unsigned()
+    number_at(line, at).cast_unsigned()
 }
 
 // The counts in a line's first columns.
@@ -181,7 +183,7 @@ fn script(input: &mut impl Read, case: Case, text: &mut [u8], last: usize) -> io
 fn next_number(input: &mut impl Read) -> io::Result<i64> {
     let mut line = [0u8; NUMBER_LINE];
     lines::read_full(input, &mut line)?;
-    Ok(number_at(&line, 0).unwrap_or(0))
+    Ok(number_at(&line, 0))
 }
 
 // Reads the numbers expected, and compares each.

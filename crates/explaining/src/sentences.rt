@@ -49,7 +49,7 @@ fn mark_of(found: Result<Option<Word>, WordError>) -> Option<Mark> {
 }
 
 fn mark_at(text: &[u8], place: usize) -> Option<Mark> {
-    mark_of(words::word_at(text, place))
+    mark_of(Reader::open(text, place).next())
 }
 
 // At the text's end something is missing; anywhere else a word does not fit.
@@ -134,7 +134,7 @@ fn say_type_of_function(out: &mut impl Write, text: &[u8], place: usize) -> io::
 
 // The program's block is the first word of its text.
 fn type_of_block(text: &[u8], place: usize) -> &'static str {
-    match words::word_at(text, 0) {
+    match Reader::open(text, 0).next() {
         Ok(Some(word)) if word.start == place => {
             "the program may not RETURN: only a function's block may"
         }
