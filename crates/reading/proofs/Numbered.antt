@@ -3,7 +3,7 @@ use mathlib.Core.Path.{◌≡◌, refl, ◌∙◌, ap, subst}
 use mathlib.Core.List.{List, [], ◌∷◌, ◌++◌, map}
 use mathlib.Core.Option.{Option, none, some, some-injective, none-ne-some}
 use mathlib.Core.Bool.{Bool, true, false, cond, ◌&&◌}
-use Prim.Native.Nat.{ℕ, ◌+◌, ◌*◌, ◌/◌, ◌%◌, ◌<◌}
+use Prim.Native.Nat.{ℕ, zero, suc, ◌+◌, ◌*◌, ◌/◌, ◌%◌, ◌<◌}
 use native.Mathlib.Numerals.{add-one}
 use native.Mathlib.Omega.{arith}
 use lib.Dec.{eqb, ltb}
@@ -223,6 +223,10 @@ symbol_numbered none = refl
 symbol_numbered (some X) = refl
 
 module _ (k : ℕ) (a : Act) (ps : Option Push) (ns : Option Sym) where
+  -- the bits of a rule are never 0
+  pub no_zero : rule_word (some (rule k a ps ns)) ≡ 0 → ⊥
+  no_zero z = omega arith
+
   how_read : how_in (rule_of (rule k a ps ns)) ≡ how_of ps
   how_read =
       let number : rule_word (some (rule k a ps ns)) / 16384 % 8 ≡ Codes.how_code ps = omega (arith, how_small ps, push_small ps, flag_small ns, next_small ns) in
@@ -264,6 +268,15 @@ found_picked k (rule j a ps ns ∷ rs) h =
     picked true = refl
     picked false = refl
 
+-- a level by the machine's number of it
+abbrev pub level_or_none : ℕ → Maybe ℕ
+level_or_none zero = None
+level_or_none (suc n) = Some (suc n)
+
+level_deep : (n : ℕ) → too_deep (level_or_none n) ≡ ltb deepest n
+level_deep zero = refl
+level_deep (suc n) = refl
+
 -- the parts of an entry
 module _ (X : Sym) (q : ℕ) (u : Ctx) (hq : q < 65536) (hc : cal u < 65536) (hd : lev u < 256) where
   sym_of : sym_in (entry_word (ent X q u)) ≡ sym_code X
@@ -285,12 +298,12 @@ module _ (X : Sym) (q : ℕ) (u : Ctx) (hq : q < 65536) (hc : cal u < 65536) (hd
       let kind : word_entry x / 65536 ≡ tag x = omega arith in
       rw (sym_of, kind, (known X).listed) (found_picked (tag x) (rules X) (known X).kinds)
 
-  -- whether the level that it opens is too deep
-  pub deep_found : (k : ℕ) (a : Act) (ps : Option Push) (ns : Option Sym)
-      → too_deep (level_opened (rule_of (rule k a ps ns)) (entry_word (ent X q u))) ≡ ltb deepest (opened ps u)
-  deep_found k a ps ns = rw (how_read k a ps ns) (go ps)
+  -- the level that it opens, which the machine numbers 0 for none; and whether it is too deep
+  pub opened_found : (k : ℕ) (a : Act) (ps : Option Push) (ns : Option Sym)
+      → level_opened (rule_of (rule k a ps ns)) (entry_word (ent X q u)) ≡ level_or_none (opened ps u)
+  opened_found k a ps ns = rw (how_read k a ps ns) (go ps)
     where
-      go : (ps : Option Push) → too_deep (opened_by (how_of ps) (entry_word (ent X q u))) ≡ ltb deepest (opened ps u)
+      go : (ps : Option Push) → opened_by (how_of ps) (entry_word (ent X q u)) ≡ level_or_none (opened ps u)
       go none = refl
       go (some (kid Y)) = refl
       go (some (deep Y)) = rw (level_of, add-one (lev u)) refl
@@ -298,6 +311,10 @@ module _ (X : Sym) (q : ℕ) (u : Ctx) (hq : q < 65536) (hc : cal u < 65536) (hd
       go (some (body Y)) = refl
       go (some (back Y)) = refl
       go (some (call Y)) = refl
+
+  pub deep_found : (k : ℕ) (a : Act) (ps : Option Push) (ns : Option Sym)
+      → too_deep (level_opened (rule_of (rule k a ps ns)) (entry_word (ent X q u))) ≡ ltb deepest (opened ps u)
+  deep_found k a ps ns = ap too_deep (opened_found k a ps ns) ∙ level_deep (opened ps u)
 
   -- and what it pushes above and beside what lies below
   module _ (k : ℕ) (a : Act) (ps : Option Push) (ns : Option Sym) (n : ℕ) where

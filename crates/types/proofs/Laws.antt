@@ -1,4 +1,4 @@
--- One more round of each loop's definition, where `i` rounds of `n` are over, and one more level of the comparison.
+-- One more round of each loop's definition, where `i` rounds of `n` are over, one more level of the comparison, and a note that says no type.
 use Prim.Native.Nat.{ℕ, zero, suc, ◌+◌, ◌-◌, ◌<◌, ◌≤◌}
 use mathlib.Core.Path.{◌≡◌, refl, ap}
 use mathlib.Core.List.{List}
@@ -7,8 +7,9 @@ use native.Mathlib.Numerals.{sub-one}
 use native.Mathlib.Omega.{arith}
 use lib.ListN.{length}
 use lib.Dec.{eqb}
+use borrow.Author.Tests.{lt-ltb}
 use Rattle.judge.specs.Scopes.{pick, child_at}
-use Rattle.judge.specs.Types.{same_parts, same, is_fun, is_vec, note_kind, parts_of, fits_from}
+use Rattle.judge.specs.Types.{same_parts, same, is_fun, is_vec, note_kind, parts_of, fits_from, returned}
 
 left : (n i : ℕ) → i < n → n - i ≡ suc (n - (i + 1))
 left n i h = omega arith
@@ -51,3 +52,8 @@ pub same_more : (l : ℕ) → (l ≡ 0 → ⊥) → (t N : List ℕ) (a b : ℕ)
 unfolding same
 same_more zero h t N a b = absurd (h refl)
 same_more (suc l) h t N a b = rw sub-one
+
+-- what is below the notes of those that may return says no type
+pub returned_none : (f : ℕ) → f < 196608 → 0 ≡ returned f
+unfolding returned
+returned_none f h = rw (lt-ltb f 327680 (omega (arith, h))) (omega (arith, h))
